@@ -1,0 +1,3 @@
+pub mod TopBit
+pub mod Reading
+pub mod Writing
