@@ -1,6 +1,9 @@
 pub mod Limits
 pub mod Mark
 pub mod Numbers
+pub mod NumbersLaws
 pub mod Kit
 pub mod Lists
 pub mod ListLaws
+pub mod Tabulate
+pub mod Padding

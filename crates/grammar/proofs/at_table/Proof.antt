@@ -1,0 +1,20 @@
+-- `at_table`: a number above 3 is refused; after the last replica the counts are judged. Assumes nothing.
+use mathlib.Core.Path.{_∙_}
+use native.Mathlib.Omega.{arith}
+use borrow.Author.Tests.{lt-ltb, le-ltb, le-leb, lt-leb}
+use borrow.Author.Needs.{needs}
+use Rattle.grammar.specs.Automaton.{atTable}
+use Rattle.grammar.proofs.at_table.Statement.{statement}
+use Rattle.grammar.proofs.at_table.Tie as tie
+
+pub at-table-spec : {M : Type 1} → statement M
+unfolding atTable
+at-table-spec =
+    tie.close
+    (tie.spec
+    (λ c κs. search needs)
+    (λ c. c .refused .ensures ∙ simp (lt-leb (c .before .before .args .n) 3 (omega arith)))
+    (λ c κs. search needs) (λ c κs. search needs)
+    (λ c. c .more .ensures ∙ rw (← c .before .before .before .counted .ensures) (simp (le-leb (c .before .before .before .before .before .args .n) 3 (omega arith), lt-ltb 0 (c .before .before .before .counted .result .left) (omega arith))))
+    (λ c κs. search needs)
+    (λ c. c .table-done .ensures ∙ rw (← c .before .before .before .counted .ensures) (simp (le-leb (c .before .before .before .before .before .args .n) 3 (omega arith), le-ltb 0 (c .before .before .before .counted .result .left) (omega arith)))))

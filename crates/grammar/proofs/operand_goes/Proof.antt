@@ -1,0 +1,18 @@
+-- `operand_goes`: one more operand, or none. Assumes nothing.
+use mathlib.Core.Path.{_∙_}
+use native.Mathlib.Omega.{arith}
+use borrow.Author.Tests.{lt-ltb, le-ltb}
+use borrow.Author.Needs.{needs}
+use Rattle.grammar.specs.Automaton.{operandGoes}
+use Rattle.grammar.proofs.operand_goes.Statement.{statement}
+use Rattle.grammar.proofs.operand_goes.Tie as tie
+
+pub operand-goes-spec : {M : Type 1} → statement M
+unfolding operandGoes
+operand-goes-spec =
+    tie.close
+    (tie.spec
+    (λ c κs. search needs) (λ c κs. search needs)
+    (λ c. c .more .ensures ∙ rw (← c .before .before .before .operand-count .ensures) (simp (lt-ltb (c .before .before .before .before .before .args .s .pending .at) (c .before .before .before .operand-count .result) (omega arith))))
+    (λ c κs. search needs)
+    (λ c. c .file .ensures ∙ rw (← c .before .before .before .operand-count .ensures) (simp (le-ltb (c .before .before .before .before .before .args .s .pending .at) (c .before .before .before .operand-count .result) (omega arith)))))

@@ -1,0 +1,5 @@
+pub mod Operands
+pub mod Automaton
+pub mod Parser
+pub mod ParserLaws
+pub mod Judging

@@ -1,0 +1,82 @@
+-- The invariants of the three loops, each by what is still to come, and one turn of each. Assumes nothing.
+use mathlib.Core.Path.{_≡_, refl, sym, ap, _∙_}
+use mathlib.Core.Bool.{Bool, true, false}
+use mathlib.Core.Logic.{_≢_}
+use mathlib.Core.List.{List, [], _∷_}
+use Prim.Native.Nat.{ℕ, zero, suc, _+_, _≤_, _<_, min}
+use native.Mathlib.Omega.{arith}
+use native.Mathlib.Numerals.{add-one}
+use lib.ListN.{length, take, drop, getD, length-take, drop-of-length-le}
+use lib.Seq.{drop-cons, getD-take}
+use borrow.Author.Tests.{eq-eqb, ne-eqb}
+use Rattle.terms.specs.Lists.{pick, holds, leastOver, countBelow}
+use Rattle.terms.specs.ListLaws.{split}
+use Rattle.terms.specs.Kit.{marksActive}
+use Rattle.rules.specs.Table.{activesFrom}
+
+-- ---- whether the first n of a list hold a request: what is from place i on decides
+
+pub record Searching (list : List ℕ) (n request i : ℕ) : Type 0 where
+  pub rest : holds request (take n list) ≡ holds request (drop i (take n list))
+
+module _ {list : List ℕ} {n request i : ℕ} (s : Searching list n request i) where
+  none-left : length (take n list) ≤ i → false ≡ holds request (take n list)
+  none-left h = rw (s .rest, drop-of-length-le (take n list) h)
+
+  pub past-end : length list ≤ i → false ≡ holds request (take n list)
+  past-end h = none-left (omega (arith, length-take n list))
+
+  pub past-count : n ≤ i → false ≡ holds request (take n list)
+  past-count h = none-left (omega (arith, length-take n list))
+
+  looks-at : i < n → i < length list → drop i (take n list) ≡ getD list i 0 ∷ drop (i + 1) (take n list)
+  looks-at below within =
+      let long : i < length (take n list) = omega (arith, length-take n list) in
+      rw (drop-cons (take n list) i 0 long, getD-take n list i 0 below, add-one i)
+
+  pub found : i < n → i < length list → getD list i 0 ≡ request → true ≡ holds request (take n list)
+  found below within e = rw (s .rest, looks-at below within, eq-eqb request (getD list i 0) (sym e))
+
+  pub not-here : i < n → i < length list → (getD list i 0 ≢ request) → Searching list n request (i + 1)
+  not-here below within ne = record { rest = s .rest ∙ rw (looks-at below within, ne-eqb request (getD list i 0) (λ e. ne (sym e))) }
+
+-- ---- how many of seven pass a test
+
+countBelow-le : (n : ℕ) (t : ℕ → Bool) → countBelow n t ≤ n
+countBelow-le zero t = omega arith
+countBelow-le (suc n) t = split (t n) (λ e. rw e (omega (arith, countBelow-le n t))) (λ e. rw e (omega (arith, countBelow-le n t)))
+
+pub record Counting (t : ℕ → Bool) (n y : ℕ) : Type 0 where
+  pub within : y ≤ 7
+  pub so-far : n ≡ countBelow y t
+
+module _ {t : ℕ → Bool} {n y : ℕ} (s : Counting t n y) where
+  pub small : y < 7 → n < 7
+  small h = rw (s .so-far) (omega (arith, countBelow-le y t))
+
+  pub next-counted : y < 7 → Counting t (pick (t y) (n + 1) n) (y + 1)
+  next-counted h = record { within = omega arith; so-far = rw (add-one y, ← s .so-far, add-one n) }
+
+  pub all-counted : 7 ≤ y → n ≡ countBelow 7 t
+  all-counted h = let e : y ≡ 7 = omega (arith, s .within) in s .so-far ∙ ap (λ (k : ℕ). countBelow k t) e
+
+-- ---- the least over the active replicas: that of replica y and those after it, and of c
+
+-- what one of them has may as well go into the value that is there at the start
+leastOver-min : (ys : List ℕ) (g : ℕ → ℕ) (a d : ℕ) → min a (leastOver ys g d) ≡ leastOver ys g (min a d)
+leastOver-min [] g a d = refl
+leastOver-min (y ∷ ys) g a d = rw (← leastOver-min ys g a d) (omega arith)
+
+pub record Lessening (table : List ℕ) (g : ℕ → ℕ) (first c y : ℕ) : Type 0 where
+  pub rest : leastOver (activesFrom table 0) g first ≡ leastOver (activesFrom (drop y table) y) g c
+
+module _ {table : List ℕ} {g : ℕ → ℕ} {first c y : ℕ} (s : Lessening table g first c y) where
+  pub next-active : y < length table → marksActive (getD table y 0) ≡ true → Lessening table g first (min (g y) c) (y + 1)
+  next-active below e =
+      record { rest = s .rest ∙ rw (drop-cons table y 0 below, e, add-one y) (leastOver-min (activesFrom (drop (suc y) table) (suc y)) g (g y) c) }
+
+  pub next-passive : y < length table → marksActive (getD table y 0) ≡ false → Lessening table g first c (y + 1)
+  next-passive below e = record { rest = s .rest ∙ rw (drop-cons table y 0 below, e, add-one y) }
+
+  pub all-seen : length table ≤ y → c ≡ leastOver (activesFrom table 0) g first
+  all-seen h = sym (s .rest ∙ rw (drop-of-length-le table h))

@@ -1,0 +1,3 @@
+pub mod Record
+pub mod RecordLayout
+pub mod RecordLaws

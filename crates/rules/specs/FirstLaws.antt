@@ -1,0 +1,68 @@
+-- The first laws of the rules on one page: what holds at every moment of the play of a kit, whatever its events are. A moment is a number of
+-- events played. The last group is of kits that document 01 allows. Each is proved in the file that its line of `use` names. Assumes nothing.
+use mathlib.Core.Path.{_≡_}
+use mathlib.Core.Bool.{true}
+use mathlib.Core.Logic.{_≢_}
+use mathlib.Core.Option.{some}
+use mathlib.Core.List.{List}
+use Prim.Native.Nat.{ℕ, suc, _≤_, _<_}
+use lib.ListN.{take}
+use Rattle.terms.specs.Lists.{nth}
+use Rattle.terms.specs.Kit.{Kit, Entry, GoodKit}
+use Rattle.terms.specs.declared.Event.the-variants.{Build}
+use Rattle.terms.specs.declared.Answer.{Answer}
+use Rattle.terms.specs.declared.Answer.the-variants.{Taken, CannotBuild}
+use Rattle.rules.specs.Reading.{answered}
+use Rattle.rules.specs.Clock.{tick}
+use Rattle.rules.specs.Play.{after, answer}
+use Rattle.rules.specs.Growth.{Grows, after-grows}
+use Rattle.rules.specs.Filings.{build-once}
+use Rattle.rules.specs.Rising.{countIn}
+use Rattle.rules.specs.laws.Refused.{refused-after}
+use Rattle.rules.specs.laws.Certificates.{AtMostThree, at-most-three-after}
+use Rattle.rules.specs.laws.Time.{gaps, clock-is-sum, late-stays, Timed, timed}
+use Rattle.rules.specs.laws.Answered.{answered-after}
+use Rattle.rules.specs.agreement.Bounds.{Bounds, bounds, settles-one}
+
+pub record FirstLaws (kit : Kit) : Type 0 where
+  -- an event with another answer than Taken leaves the ticked room
+  pub refused
+      : (n : ℕ) (e : Entry) (a : Answer) → nth (kit .events) n ≡ some e → answer kit n ≡ some a → a ≢ Taken → after kit (suc n) ≡ tick kit (after kit n) (e .gap)
+  -- counters, submissions, ticks and histories only grow, and what stands at a value or place stays
+  pub grows : (m n : ℕ) → m ≤ n → Grows (after kit m) (after kit n)
+  -- no event adds more than three certificates
+  pub certificates : (n : ℕ) (e : Entry) → nth (kit .events) n ≡ some e → AtMostThree (after kit n) (after kit (suc n))
+  -- the clock is the sum of the gaps
+  pub clock : (n : ℕ) → after kit n .clock ≡ gaps (take n (kit .events))
+  -- late once is late for ever at that tick
+  pub late : (t m n : ℕ) → m ≤ n → after kit m .late ≡ some t → after kit n .late ≡ some t
+  -- ticks never fall along the submissions, and none is past the clock
+  pub ticks : (n : ℕ) → Timed (after kit n)
+  -- an answered request stays answered
+  pub answers : (m n : ℕ) → m ≤ n → (request : ℕ) → answered kit (after kit m) request ≡ true → answered kit (after kit n) request ≡ true
+  -- event 7 is taken at most once
+  pub built-once
+      : (m n gap gap₁ : ℕ) (list list₁ : List ℕ) → m < n → nth (kit .events) m ≡ some (record { gap = gap; event = Build; requests = list })
+      → answer kit m ≡ some Taken → nth (kit .events) n ≡ some (record { gap = gap₁; event = Build; requests = list₁ }) → answer kit n ≡ some CannotBuild
+
+pub record FirstBounds (kit : Kit) : Type 0 where
+  -- a correct replica's counters hold at most 65, 65 and 1; at most 64 submitted, at most 8 histories filed
+  pub room : (n : ℕ) → Bounds kit (after kit n)
+  -- the settled count rises by at most one an event
+  pub count : (n : ℕ) (e : Entry) → nth (kit .events) n ≡ some e → (x : ℕ) → countIn kit (after kit (suc n)) x ≤ suc (countIn kit (after kit n) x)
+
+pub first-laws : (kit : Kit) → FirstLaws kit
+first-laws kit =
+    record {
+      refused = refused-after kit;
+      grows = after-grows kit;
+      certificates = at-most-three-after kit;
+      clock = clock-is-sum kit;
+      late = late-stays kit;
+      ticks = timed kit;
+      answers = answered-after kit;
+      built-once = build-once kit;
+    }
+
+pub first-bounds : (kit : Kit) → GoodKit kit → FirstBounds kit
+first-bounds kit good = record { room = bounds kit good; count = settles-one kit good }

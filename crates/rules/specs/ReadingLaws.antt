@@ -1,0 +1,146 @@
+-- Laws of Reading: conditions, contents that pass a test, settled counts and lists. Assumes nothing.
+use mathlib.Core.Path.{_≡_, refl, sym, ap}
+use mathlib.Core.Bool.{Bool, true, false}
+use mathlib.Core.Logic.{_≢_}
+use mathlib.Core.Option.{Option, none, some}
+use Prim.Native.Nat.{ℕ, suc, _≤_, _<_}
+use native.Mathlib.Omega.{arith}
+use lib.Dec.{eqb}
+use borrow.Author.Tests.{eqb-true, ne-eqb}
+use Rattle.terms.specs.Lists.{pick, nth, holds, Sub}
+use Rattle.terms.specs.ListLaws.{split, no-way, and-l, and-r, nth-take, take-nth, leastOver-le, leastOver-glb, leastOver-seed, leastOver-mono}
+use Rattle.terms.specs.ListLaws.{leastOver-step}
+use Rattle.terms.specs.Kit.{Kit}
+use Rattle.terms.specs.declared.Content.{Content}
+use Rattle.terms.specs.declared.Content.the-variants.{Prepare, Commit, Update, History, Switch}
+use Rattle.terms.specs.declared.Condition.{Condition}
+use Rattle.terms.specs.declared.Condition.the-variants.{Running, Halted, Closed, Faulty}
+use Rattle.rules.specs.Table.{ag, up, isActive, actives}
+use Rattle.rules.specs.Room.{Replica}
+use Rattle.rules.specs.Reading.{isRunning, isClosed, isFaulty, sameContent, isContent, valueSeen, settledCount, settledNoted}
+
+-- ---- conditions
+
+pub running-open : (c : Condition) → isRunning c ≡ true → isClosed c ≡ false
+running-open Running e = refl
+running-open Halted e = refl
+running-open Closed e = cc
+running-open Faulty e = refl
+
+pub running-correct : (c : Condition) → isRunning c ≡ true → isFaulty c ≡ false
+running-correct Running e = refl
+running-correct Halted e = refl
+running-correct Closed e = refl
+running-correct Faulty e = sym e
+
+pub closed-correct : (c : Condition) → isClosed c ≡ true → isFaulty c ≡ false
+closed-correct Running e = no-way (cc)
+closed-correct Halted e = no-way (cc)
+closed-correct Closed e = refl
+closed-correct Faulty e = no-way (cc)
+
+-- ---- contents
+
+-- a passed test of content
+pub sameContent-same : (a b : Content) → sameContent a b ≡ true → a ≡ b
+sameContent-same (Prepare a) (Prepare c) e = ap Prepare (eqb-true a c e)
+sameContent-same (Prepare a) (Commit c d) e = no-way (cc)
+sameContent-same (Prepare a) (Update c d) e = no-way (cc)
+sameContent-same (Prepare a) (History c) e = no-way (cc)
+sameContent-same (Prepare a) (Switch c) e = no-way (cc)
+sameContent-same (Commit a b) (Prepare c) e = no-way (cc)
+sameContent-same (Commit a b) (Commit c d) e = cc (eqb-true a c (and-l (eqb a c) (eqb b d) e), eqb-true b d (and-r (eqb a c) (eqb b d) e))
+sameContent-same (Commit a b) (Update c d) e = no-way (cc)
+sameContent-same (Commit a b) (History c) e = no-way (cc)
+sameContent-same (Commit a b) (Switch c) e = no-way (cc)
+sameContent-same (Update a b) (Prepare c) e = no-way (cc)
+sameContent-same (Update a b) (Commit c d) e = no-way (cc)
+sameContent-same (Update a b) (Update c d) e = cc (eqb-true a c (and-l (eqb a c) (eqb b d) e), eqb-true b d (and-r (eqb a c) (eqb b d) e))
+sameContent-same (Update a b) (History c) e = no-way (cc)
+sameContent-same (Update a b) (Switch c) e = no-way (cc)
+sameContent-same (History a) (Prepare c) e = no-way (cc)
+sameContent-same (History a) (Commit c d) e = no-way (cc)
+sameContent-same (History a) (Update c d) e = no-way (cc)
+sameContent-same (History a) (History c) e = ap History (eqb-true a c e)
+sameContent-same (History a) (Switch c) e = no-way (cc)
+sameContent-same (Switch a) (Prepare c) e = no-way (cc)
+sameContent-same (Switch a) (Commit c d) e = no-way (cc)
+sameContent-same (Switch a) (Update c d) e = no-way (cc)
+sameContent-same (Switch a) (History c) e = no-way (cc)
+sameContent-same (Switch a) (Switch c) e = ap Switch (eqb-true a c e)
+
+pub isContent-same : (o : Option Content) (c : Content) → isContent o c ≡ true → o ≡ some c
+isContent-same none c e = no-way (cc)
+isContent-same (some d) c e = ap some (sameContent-same d c e)
+
+-- ---- settled counts: of active replica y, x has seen no less than it has settled
+
+pub settledCount-active : (kit : Kit) (x : ℕ) (p : Replica) (n y : ℕ) → isActive kit x ≡ true → holds y (actives kit) ≡ true → y ≢ x
+    → settledCount kit x p n ≤ p .accepted y ag
+unfolding settledCount
+settledCount-active kit x p n y a m d =
+    rw a (rw (ne-eqb y x d) at (leastOver-le (actives kit) (valueSeen true n x (p .accepted)) n y m))
+
+pub settledCount-passive : (kit : Kit) (x : ℕ) (p : Replica) (n y : ℕ) → isActive kit x ≡ false → holds y (actives kit) ≡ true
+    → settledCount kit x p n ≤ p .accepted y up
+unfolding settledCount
+settledCount-passive kit x p n y a m = rw a (leastOver-le (actives kit) (valueSeen false n x (p .accepted)) (p .accepted (kit .leader) up) y m)
+
+pub settledCount-least : (kit : Kit) (x : ℕ) (p : Replica) (n m : ℕ) → isActive kit x ≡ true
+    → ((y : ℕ) → holds y (actives kit) ≡ true → m ≤ pick (eqb y x) n (p .accepted y ag)) → m ≤ n → m ≤ settledCount kit x p n
+unfolding settledCount
+settledCount-least kit x p n m a f l = rw a (leastOver-glb (actives kit) (valueSeen true n x (p .accepted)) n m f l)
+
+-- ---- and they rise with what is seen, by at most one if each does
+
+valueSeen-rises : (t : Bool) (x n n₁ : ℕ) (a b : ℕ → ℕ → ℕ) → n ≤ n₁ → ((y m : ℕ) → a y m ≤ b y m) → (y : ℕ)
+    → valueSeen t n x a y ≤ valueSeen t n₁ x b y
+valueSeen-rises true x n n₁ a b l f y = split (eqb y x) (λ e. rw e l) (λ e. rw e (f y ag))
+valueSeen-rises false x n n₁ a b l f y = f y up
+
+valueSeen-by-one : (t : Bool) (x n n₁ : ℕ) (a b : ℕ → ℕ → ℕ) → n₁ ≤ suc n → ((y m : ℕ) → b y m ≤ suc (a y m)) → (y : ℕ)
+    → valueSeen t n₁ x b y ≤ suc (valueSeen t n x a y)
+valueSeen-by-one true x n n₁ a b l f y = split (eqb y x) (λ e. rw e l) (λ e. rw e (f y ag))
+valueSeen-by-one false x n n₁ a b l f y = f y up
+
+pick-rises : (t : Bool) (n n₁ a b : ℕ) → n ≤ n₁ → a ≤ b → pick t n a ≤ pick t n₁ b
+pick-rises true n n₁ a b l f = l
+pick-rises false n n₁ a b l f = f
+
+pick-by-one : (t : Bool) (n n₁ a b : ℕ) → n₁ ≤ suc n → b ≤ suc a → pick t n₁ b ≤ suc (pick t n a)
+pick-by-one true n n₁ a b l f = l
+pick-by-one false n n₁ a b l f = f
+
+pub settledCount-rises : (kit : Kit) (x : ℕ) (p p₁ : Replica) (n n₁ : ℕ) → n ≤ n₁ → ((y m : ℕ) → p .accepted y m ≤ p₁ .accepted y m)
+    → settledCount kit x p n ≤ settledCount kit x p₁ n₁
+unfolding settledCount
+settledCount-rises kit x p p₁ n n₁ l f =
+    leastOver-mono (actives kit) (valueSeen (isActive kit x) n x (p .accepted)) (valueSeen (isActive kit x) n₁ x (p₁ .accepted)) _ _
+    (valueSeen-rises (isActive kit x) x n n₁ (p .accepted) (p₁ .accepted) l f)
+    (pick-rises (isActive kit x) n n₁ _ _ l (f (kit .leader) up))
+
+pub settledCount-by-one : (kit : Kit) (x : ℕ) (p p₁ : Replica) (n n₁ : ℕ) → n₁ ≤ suc n → ((y m : ℕ) → p₁ .accepted y m ≤ suc (p .accepted y m))
+    → settledCount kit x p₁ n₁ ≤ suc (settledCount kit x p n)
+unfolding settledCount
+settledCount-by-one kit x p p₁ n n₁ l f =
+    leastOver-step (actives kit) (valueSeen (isActive kit x) n x (p .accepted)) (valueSeen (isActive kit x) n₁ x (p₁ .accepted)) _ _
+    (valueSeen-by-one (isActive kit x) x n n₁ (p .accepted) (p₁ .accepted) l f)
+    (pick-by-one (isActive kit x) n n₁ _ _ l (f (kit .leader) up))
+
+pub settledCount-own : (kit : Kit) (x : ℕ) (p : Replica) (n : ℕ) → isActive kit x ≡ true → settledCount kit x p n ≤ n
+unfolding settledCount
+settledCount-own kit x p n a = rw a (leastOver-seed (actives kit) (valueSeen true n x (p .accepted)) n)
+
+-- ---- settled lists of those that are not closed
+
+pub settledNoted-at : (kit : Kit) (x : ℕ) (p : Replica) (n i q : ℕ) → nth (settledNoted kit x p n) i ≡ some q
+    → (i < settledCount kit x p n) × (nth (p .noted) i ≡ some q)
+unfolding settledNoted
+settledNoted-at kit x p n i q e = nth-take (settledCount kit x p n) (p .noted) i e
+
+pub settledNoted-rises : (kit : Kit) (x : ℕ) (p p₁ : Replica) (n n₁ : ℕ) → Sub (p .noted) (p₁ .noted)
+    → settledCount kit x p n ≤ settledCount kit x p₁ n₁ → Sub (settledNoted kit x p n) (settledNoted kit x p₁ n₁)
+unfolding settledNoted
+settledNoted-rises kit x p p₁ n n₁ s l i a e =
+    let h = nth-take (settledCount kit x p n) (p .noted) i e in
+    take-nth (settledCount kit x p₁ n₁) (p₁ .noted) i (omega arith) (s i a (h .1))

@@ -1,0 +1,400 @@
+-- A delivery on ag, up or sw keeps the invariant, and no list of settled requests loses anything. Assumes nothing.
+use mathlib.Core.Path.{_≡_, refl, sym, ap, _∙_}
+use mathlib.Core.Bool.{Bool, true, false, not, _&&_, _||_}
+use mathlib.Core.Logic.{_≢_}
+use mathlib.Core.Option.{Option, none, some}
+use mathlib.Core.List.{List, [], _∷_, _++_}
+use Prim.Native.Nat.{ℕ, suc, _-_, _≤_}
+use native.Mathlib.Omega.{arith}
+use lib.ListN.{length, getD}
+use lib.Dec.{eqb, ltb, leb}
+use borrow.Author.Tests.{ltb-true, ltb-false, eqb-true, eqb-false, leb-true, leb-false}
+use Rattle.terms.specs.Lists.{nth, holds, Sub, isSome}
+use Rattle.terms.specs.ListLaws.{no-way, pick-elim, and-l, and-r, or-l, or-r, not-was-false, not-was-true, nth-append, nth-snoc, nth-getD}
+use Rattle.terms.specs.ListLaws.{length-snoc}
+use Rattle.terms.specs.Mark.{nextMark, markOf}
+use Rattle.terms.specs.Kit.{Kit}
+use Rattle.terms.specs.declared.Content.{Content}
+use Rattle.terms.specs.declared.Content.the-variants.{Prepare, Commit, Update}
+use Rattle.terms.specs.declared.Condition.the-variants.{Closed}
+use Rattle.terms.specs.declared.Answer.{Answer}
+use Rattle.rules.specs.Table.{ag, up, sw, isActive, isMarkedFaulty}
+use Rattle.rules.specs.TableLaws.{Roles}
+use Rattle.rules.specs.Room.{Room, Replica, withReplica, issue, withCondition, withMark, note, notePair, accept}
+use Rattle.rules.specs.RoomLaws.{accepted-rises, accepted-by-one}
+use Rattle.rules.specs.Reading.{isRunning, isClosed, isFaulty, contentAt, isContent, firstOf, secondOf, settledCount, settledNoted, heldList}
+use Rattle.rules.specs.ReadingLaws.{running-open, running-correct, isContent-same, settledCount-rises, settledCount-by-one, settledNoted-rises}
+use Rattle.rules.specs.Outcome.{Outcome, refuse}
+use Rattle.rules.specs.Growth.{Grows, still-submitted, grows-refl, grows-trans, grows-withReplica, grows-issue}
+use Rattle.rules.specs.agreement.Invariant.{Common, Active, Passive, Part, Invariant, common-grows, active-grows, passive-grows}
+use Rattle.rules.specs.agreement.OneRoom.{open-in-backed}
+use Rattle.rules.specs.agreement.Changes.{common-note, common-same, common-close, active-prepare, active-commit, active-rise, active-same}
+use Rattle.rules.specs.agreement.Changes.{active-few, passive-same, passive-accept, passive-within}
+use Rattle.rules.specs.agreement.Frame.{Moved, moved-none, moved-record, moved-ag, moved-up, Next, next-none, next-move, grows-open}
+use Rattle.rules.specs.agreement.Frame.{grows-closing}
+use Rattle.rules.specs.Deliver.{settle, expectsPrepare, afterPrepare, expectsCommit, afterCommit, onAg, expectsPair, expectsUpdate, markOfPair}
+use Rattle.rules.specs.Deliver.{afterUpdate, onUp, switches, afterSwitch, onSw, isTooLate, hasWrongRoles, onDeliver}
+
+-- a refusal leaves the room as it is
+pub next-refuse : (kit : Kit) (r : Room) → Invariant kit r → (t : Bool) (n : Answer) (o : Outcome) → (t ≡ false → Next kit r (o .room))
+    → Next kit r (refuse t n r o .room)
+unfolding refuse
+next-refuse kit r a true n o f = next-none kit r a
+next-refuse kit r a false n o f = f refl
+
+-- the end of an event on ag: x has record p and has settled c; where its count is d = c + 1 now it settles one more
+next-settle : (kit : Kit) {r r₁ : Room} (x : ℕ) {p₀ : Replica} (p : Replica) {ags ups : List Content} (c d : ℕ) → Invariant kit r
+    → Moved r r₁ x p₀ ags ups → isActive kit x ≡ true
+    → p .held ≡ none → isRunning (r .replica x .condition) ≡ true → isRunning (p .condition) ≡ true → d ≡ settledCount kit x p (length ags) → c ≤ d
+    → d ≤ suc c
+    → Common kit r₁ p → Active kit r₁ x p ags ups c
+    → Sub (settledNoted kit x (r .replica x) (length (r .counter x ag))) (settledNoted kit x p (length ags)) → Next kit r (settle r₁ x p c d)
+unfolding settle withMark settledNoted settledCount
+next-settle kit {r} {r₁} x p {ags} {ups} c d a v ax free u₀ u₁ ed lo hi cm act₁ sub =
+    pick-elim (λ z. Next kit r z) (ltb c d)
+    (λ t. let v₁ = moved-up (moved-record v (withMark p m)) (Update q m) in
+    let g = grows-trans (grows-withReplica r₁ x (withMark p m)) (grows-issue (withReplica r₁ x (withMark p m)) x up (Update q m)) in
+    next-move kit x a v₁ (good₁ ∙ sym good₀)
+    (λ f. let act₂ = active-rise kit x p ags ups c d m ax free ed (omega (arith, ltb-true c d t)) act₁ in
+    let few = active-few kit x (withMark p m) ags (ups ++ (Update q m ∷ [])) ax free act₂ in
+    record {
+      common = common-grows kit g (common-same kit refl refl refl cm);
+      active = λ e. active-grows kit g act₂;
+      passive = λ e. no-way (cc);
+      ag-few = few .0;
+      up-few = few .1;
+    })
+    (λ f. grows-open kit x v₁ good₀ good₁ (running-open (r .replica x .condition) u₀) (running-open (p .condition) u₁) sub))
+    (λ t. let v₁ = moved-record v p in
+    let g = grows-withReplica r₁ x p in
+    let z : c ≡ settledCount kit x p (length ags) = omega (arith, ltb-false c d t) in
+    next-move kit x a v₁ (good₁ ∙ sym good₀)
+    (λ f. let act₂ : Active kit r₁ x p ags ups (settledCount kit x p (length ags)) = rw z at act₁ in
+    let few = active-few kit x p ags ups ax free act₂ in
+    record { common = common-grows kit g cm; active = λ e. active-grows kit g act₂; passive = λ e. no-way (cc); ag-few = few .0; up-few = few .1 })
+    (λ f. grows-open kit x v₁ good₀ good₁ (running-open (r .replica x .condition) u₀) (running-open (p .condition) u₁) sub))
+  where
+    q : ℕ
+    q = getD (p .noted) c 0
+
+    m : ℕ
+    m = nextMark (p .mark) q
+
+    good₀ : isFaulty (r .replica x .condition) ≡ false
+    good₀ = running-correct (r .replica x .condition) u₀
+
+    good₁ : isFaulty (p .condition) ≡ false
+    good₁ = running-correct (p .condition) u₁
+
+-- ---- ag from the leader
+
+prepare-grows : (kit : Kit) (x : ℕ) (p : Replica) (n s v q : ℕ) → v ≡ suc (p .accepted s ag)
+    → Sub (settledNoted kit x p n) (settledNoted kit x (accept (note p q) s ag v) (suc n))
+unfolding accept note
+prepare-grows kit x p n s v q ev =
+    settledNoted-rises kit x p (accept (note p q) s ag v) n (suc n) (λ i a e. nth-append (p .noted) (q ∷ []) i e)
+    (settledCount-rises kit x p (accept (note p q) s ag v) n (suc n) (omega arith) (λ y m. accepted-rises (p .accepted) s ag v y m ev))
+
+next-prepare : (kit : Kit) → Roles kit → (r : Room) → Invariant kit r → (v x q : ℕ) → isMarkedFaulty kit x ≡ false → isActive kit x ≡ true
+    → x ≢ kit .leader → isRunning (r .replica x .condition) ≡ true
+    → v ≡ suc (r .replica x .accepted (kit .leader) ag)
+    → nth (r .counter (kit .leader) ag) (r .replica x .accepted (kit .leader) ag) ≡ some (Prepare q) → holds q (r .submitted) ≡ true
+    → holds q (r .replica x .noted) ≡ false
+    → Next kit r (afterPrepare kit r (kit .leader) v x q)
+unfolding afterPrepare accept note
+next-prepare kit roles r a v x q fx ax xl run ev ec es en =
+    next-settle kit x p₁ (settledCount kit x p n) (settledCount kit x p₁ (suc n)) a (moved-ag (moved-none r x) (Commit q v)) ax free run run
+    (ap (settledCount kit x p₁) (sym (length-snoc (r .counter x ag) (Commit q v))))
+    (settledCount-rises kit x p p₁ n (suc n) (omega arith) (λ y m. accepted-rises (p .accepted) (kit .leader) ag v y m ev))
+    (settledCount-by-one kit x p p₁ n (suc n) (omega arith) (λ y m. accepted-by-one (p .accepted) (kit .leader) ag v y m ev))
+    (common-note kit g q refl refl refl (still-submitted g q es) en (loc .common))
+    (active-prepare kit roles g x p (r .counter x ag) (r .counter x up) (settledCount kit x p n) q v xl free
+    (ev ∙ ap suc (av .leader-accepted xl free)) (rw (av .leader-accepted xl free) at ec) sub av)
+    sub
+  where
+    p : Replica
+    p = r .replica x
+
+    p₁ : Replica
+    p₁ = accept (note p q) (kit .leader) ag v
+
+    n : ℕ
+    n = length (r .counter x ag)
+
+    g : Grows r (issue r x ag (Commit q v))
+    g = grows-issue r x ag (Commit q v)
+
+    loc : Part kit r x p (r .counter x ag) (r .counter x up)
+    loc = a .part x fx
+
+    av : Active kit r x p (r .counter x ag) (r .counter x up) (settledCount kit x p n)
+    av = loc .active ax
+
+    free : p .held ≡ none
+    free = loc .common .running-holds-none run
+
+    sub : Sub (settledNoted kit x p n) (settledNoted kit x p₁ (length (r .counter x ag ++ (Commit q v ∷ []))))
+    sub = rw (length-snoc (r .counter x ag) (Commit q v)) (prepare-grows kit x p n (kit .leader) v q ev)
+
+-- ---- ag from another active replica
+
+next-commit : (kit : Kit) (r : Room) → Invariant kit r → (s v x b : ℕ) → isMarkedFaulty kit x ≡ false → isActive kit x ≡ true → s ≢ kit .leader
+    → isRunning (r .replica x .condition) ≡ true
+    → v ≡ suc (r .replica x .accepted s ag) → nth (r .counter s ag) (r .replica x .accepted s ag) ≡ some (Commit b v)
+    → v ≤ length (r .replica x .noted) → Next kit r (afterCommit kit r s v x)
+unfolding afterCommit accept
+next-commit kit r a s v x b fx ax sl run ev ec lv =
+    next-settle kit x p₁ (settledCount kit x p n) (settledCount kit x p₁ n) a (moved-none r x) ax free run run
+    refl ups
+    (settledCount-by-one kit x p p₁ n n (omega arith) (λ y m. accepted-by-one (p .accepted) s ag v y m ev))
+    (common-same kit refl refl refl (loc .common))
+    (active-commit kit x p (r .counter x ag) (r .counter x up) (settledCount kit x p n) s b v sl ev lv ec sub (loc .active ax))
+    sub
+  where
+    p : Replica
+    p = r .replica x
+
+    p₁ : Replica
+    p₁ = accept p s ag v
+
+    n : ℕ
+    n = length (r .counter x ag)
+
+    loc : Part kit r x p (r .counter x ag) (r .counter x up)
+    loc = a .part x fx
+
+    free : p .held ≡ none
+    free = loc .common .running-holds-none run
+
+    ups : settledCount kit x p n ≤ settledCount kit x p₁ n
+    ups = settledCount-rises kit x p p₁ n n (omega arith) (λ y m. accepted-rises (p .accepted) s ag v y m ev)
+
+    sub : Sub (settledNoted kit x p n) (settledNoted kit x p₁ n)
+    sub = settledNoted-rises kit x p p₁ n n (λ i q e. e) ups
+
+-- what the tests of contents give
+prepare-expected : (r : Room) (p : Replica) (o : Option Content) → expectsPrepare r p o ≡ true
+    → (o ≡ some (Prepare (firstOf o))) × (holds (firstOf o) (r .submitted) ≡ true) × (holds (firstOf o) (p .noted) ≡ false)
+unfolding expectsPrepare
+prepare-expected r p o e =
+    let a = holds (firstOf o) (r .submitted) in
+    let b = holds (firstOf o) (p .noted) in
+    let h = and-r (isContent o (Prepare (firstOf o))) (a && not b) e in (
+      isContent-same o (Prepare (firstOf o)) (and-l (isContent o (Prepare (firstOf o))) (a && not b) e),
+      and-l a (not b) h,
+      not-was-true b
+          (and-r a (not b) h),
+    )
+
+commit-expected : (p : Replica) (v : ℕ) (o : Option Content) → expectsCommit p v o ≡ true
+    → (v ≤ length (p .noted)) × (b : ℕ) × (o ≡ some (Commit b v))
+unfolding expectsCommit
+commit-expected p v o e =
+    let b = getD (p .noted) (v - 1) 0 in (
+      leb-true v (length (p .noted)) (and-l (leb v (length (p .noted))) (isContent o (Commit b v)) e),
+      b,
+      isContent-same o (Commit b v)
+          (and-r (leb v (length (p .noted))) (isContent o (Commit b v)) e),
+    )
+
+next-ag : (kit : Kit) → Roles kit → (r : Room) → Invariant kit r → (s v x : ℕ) (o : Option Content) → o ≡ contentAt (r .counter s ag) v
+    → isMarkedFaulty kit x ≡ false → isActive kit x ≡ true → s ≢ x → isRunning (r .replica x .condition) ≡ true
+    → v ≡ suc (r .replica x .accepted s ag) → Next kit r (onAg kit r s v x o .room)
+unfolding onAg
+next-ag kit roles r a s v x o eo fx ax sx run ev =
+    pick-elim (λ (z : Outcome). Next kit r (z .room)) (eqb s (kit .leader))
+    (λ t. next-refuse kit r a _ _ _ λ u.
+    let z = eqb-true s (kit .leader) t in
+    let w = prepare-expected r (r .replica x) o (not-was-false (expectsPrepare r (r .replica x) o) u) in
+    rw z (next-prepare kit roles r a v x (firstOf o) fx ax (λ y. sx (z ∙ sym y)) run (rw z at ev) (rw z at (ec ∙ w .0)) (w .1) (w .2)))
+    (λ t. next-refuse kit r a _ _ _ λ u.
+    let w = commit-expected (r .replica x) v o (not-was-false (expectsCommit (r .replica x) v o) u) in
+    next-commit kit r a s v x (w .1) fx ax (eqb-false s (kit .leader) t) run ev (ec ∙ w .2) (w .0))
+  where
+    ec : nth (r .counter s ag) (r .replica x .accepted s ag) ≡ o
+    ec = rw (eo, ev)
+
+-- ---- up
+
+-- the end of an event on up: x has record p₁
+next-noting : (kit : Kit) (r : Room) → Invariant kit r → (x : ℕ) (p₁ : Replica) → isActive kit x ≡ false → isRunning (r .replica x .condition) ≡ true
+    → isRunning (p₁ .condition) ≡ true → length (r .replica x .noted) ≤ length (p₁ .noted)
+    → (isMarkedFaulty kit x ≡ false → Common kit r p₁) → (isMarkedFaulty kit x ≡ false → Passive kit r p₁)
+    → Sub (settledNoted kit x (r .replica x) (length (r .counter x ag))) (settledNoted kit x p₁ (length (r .counter x ag)))
+    → Next kit r (afterUpdate kit r x p₁)
+unfolding afterUpdate withMark settledNoted settledCount
+next-noting kit r a x p₁ ax u₀ u₁ more cm pas sub =
+    let m = markOfPair (p₁ .pairMarks) (settledCount kit x p₁ 0) in
+    let v = moved-record (moved-none r x) (withMark p₁ m) in
+    let g = grows-withReplica r x (withMark p₁ m) in
+    let g₀ = running-correct (r .replica x .condition) u₀ in
+    let g₁ = running-correct (p₁ .condition) u₁ in
+    next-move kit x a v (g₁ ∙ sym g₀)
+    (λ f. record {
+      common = common-grows kit g (common-same kit refl refl refl (cm f));
+      active = λ e. no-way (cc);
+      passive = λ e. passive-grows kit g (passive-same kit refl refl (λ y. refl) (pas f));
+      ag-few = omega (arith, a .part x f .ag-few, more);
+      up-few = omega (arith, a .part x f .up-few, more);
+    })
+    (λ f. grows-open kit x v g₀ g₁ (running-open (r .replica x .condition) u₀) (running-open (p₁ .condition) u₁) sub)
+
+pair-expected : (p : Replica) (v : ℕ) (o : Option Content) → expectsPair p v o ≡ true
+    → o ≡ some (Update (getD (p .noted) (v - 1) 0) (getD (p .pairMarks) (v - 1) 0))
+unfolding expectsPair
+pair-expected p v o e = isContent-same o _ e
+
+update-expected : (r : Room) (p : Replica) (o : Option Content) → expectsUpdate r p o ≡ true
+    → (o ≡ some (Update (firstOf o) (secondOf o))) × (holds (firstOf o) (r .submitted) ≡ true) × (holds (firstOf o) (p .noted) ≡ false)
+unfolding expectsUpdate
+update-expected r p o e =
+    let a = holds (firstOf o) (r .submitted) in
+    let b = holds (firstOf o) (p .noted) in
+    let c = isContent o (Update (firstOf o) (secondOf o)) in
+    let h = and-r c (a && not b) e in
+    (isContent-same o (Update (firstOf o) (secondOf o)) (and-l c (a && not b) e), and-l a (not b) h, not-was-true b (and-r a (not b) h))
+
+next-up : (kit : Kit) (r : Room) → Invariant kit r → (s v x : ℕ) (o : Option Content) → o ≡ contentAt (r .counter s up) v
+    → isMarkedFaulty kit x ≡ false → isActive kit x ≡ false → isRunning (r .replica x .condition) ≡ true
+    → v ≡ suc (r .replica x .accepted s up) → Next kit r (onUp kit r s v x o .room)
+unfolding onUp accept notePair
+next-up kit r a s v x o eo fx ax run ev =
+    pick-elim (λ (z : Outcome). Next kit r (z .room)) (leb v (length (p .noted)))
+    (λ t. next-refuse kit r a _ _ _ λ u.
+    let w = pair-expected p v o (not-was-false (expectsPair p v o) u) in
+    let l = leb-true v (length (p .noted)) t in
+    let i : v - 1 ≡ p .accepted s up = omega arith in
+    next-noting kit r a x (accept p s up v) ax run run (omega arith) (λ f. common-same kit refl refl refl (loc .common))
+    (λ f. passive-accept kit p (accept p s up v) s v (getD (p .noted) (p .accepted s up) 0) _ (λ j q e. e) (loc .passive ax .paired) refl ev
+    (nth-getD (p .noted) (p .accepted s up) 0 (omega arith)) (rw i at (ec ∙ w)) (loc .passive ax))
+    (settledNoted-rises kit x p (accept p s up v) n n (λ j q e. e)
+    (settledCount-rises kit x p (accept p s up v) n n (omega arith) (λ y m. accepted-rises (p .accepted) s up v y m ev))))
+    (λ t. next-refuse kit r a _ _ _ λ u.
+    let w = update-expected r p o (not-was-false (expectsUpdate r p o) u) in
+    let q = firstOf o in
+    let p₁ = accept (notePair p q (secondOf o)) s up v in
+    let i : p .accepted s up ≡ length (p .noted) = omega (arith, leb-false v (length (p .noted)) t, passive-within kit p s (loc .passive ax)) in
+    next-noting kit r a x p₁ ax run run (omega (arith, length-snoc (p .noted) q))
+    (λ f. common-note kit (grows-refl r) q refl refl refl (w .1) (w .2) (loc .common))
+    (λ f. passive-accept kit p p₁ s v q (secondOf o) (λ j b e. nth-append (p .noted) (q ∷ []) j e)
+    (length-snoc (p .pairMarks) (secondOf o) ∙ ap suc (loc .passive ax .paired) ∙ sym (length-snoc (p .noted) q)) refl ev
+    (rw i (nth-snoc (p .noted) q)) (ec ∙ w .0) (loc .passive ax))
+    (settledNoted-rises kit x p p₁ n n (λ j b e. nth-append (p .noted) (q ∷ []) j e)
+    (settledCount-rises kit x p p₁ n n (omega arith) (λ y m. accepted-rises (p .accepted) s up v y m ev))))
+  where
+    p : Replica
+    p = r .replica x
+
+    n : ℕ
+    n = length (r .counter x ag)
+
+    loc : Part kit r x p (r .counter x ag) (r .counter x up)
+    loc = a .part x fx
+
+    ec : nth (r .counter s up) (p .accepted s up) ≡ o
+    ec = rw (eo, ev)
+
+-- ---- sw
+
+next-sw : (kit : Kit) → Roles kit → (r : Room) → Invariant kit r → (s v x : ℕ) (o : Option Content) → isMarkedFaulty kit x ≡ false
+    → isClosed (r .replica x .condition) ≡ false → isSome (r .replica x .held) ≡ true
+    → Next kit r (onSw kit r s v x o .room)
+unfolding onSw afterSwitch accept settledNoted settledCount withMark withCondition
+next-sw kit roles r a s v x o fx op hs =
+    next-refuse kit r a _ _ _ λ u.
+    pick-elim (λ z. Next kit r z) (leb (kit .f) (switches kit p₁))
+    (λ t. let v₁ = moved-record (moved-none r x) p₂ in
+    let g = grows-withReplica r x p₂ in
+    next-move kit x a v₁ (sym ok)
+    (λ f. record {
+      common = common-grows kit g (common-same kit refl refl refl (common-close kit p₁ (held .0) (held .1) c₁));
+      active = λ e. active-grows kit g (active-same kit x p p₂ _ _ refl refl (λ y. refl) refl (loc .active e));
+      passive = λ e. passive-grows kit g (passive-same kit refl refl (λ y. refl) (loc .passive e));
+      ag-few = loc .ag-few;
+      up-few = loc .up-few;
+    })
+    (λ f. let w = loc .common .held-backed (held .0) (held .1) in grows-closing kit x v₁ ok op refl (held .0) (held .1) w
+    (open-in-backed kit roles r a x fx w)))
+    (λ t. let v₁ = moved-record (moved-none r x) p₁ in
+    let g = grows-withReplica r x p₁ in
+    next-move kit x a v₁ refl
+    (λ f. record {
+      common = common-grows kit g c₁;
+      active = λ e. active-grows kit g (active-same kit x p p₁ _ _ refl refl (λ y. refl) refl (loc .active e));
+      passive = λ e. passive-grows kit g (passive-same kit refl refl (λ y. refl) (loc .passive e));
+      ag-few = loc .ag-few;
+      up-few = loc .up-few;
+    })
+    (λ f. grows-open kit x v₁ ok ok op op (λ i q e. e)))
+  where
+    p : Replica
+    p = r .replica x
+
+    p₁ : Replica
+    p₁ = accept p s sw v
+
+    p₂ : Replica
+    p₂ = withMark (withCondition p₁ Closed) (markOf (heldList r (p .held)))
+
+    loc : Part kit r x p (r .counter x ag) (r .counter x up)
+    loc = a .part x fx
+
+    c₁ : Common kit r p₁
+    c₁ = common-same kit refl refl refl (loc .common)
+
+    some-of : (h : Option ℕ) → isSome h ≡ true → (n : ℕ) × (h ≡ some n)
+    some-of none e = no-way (cc)
+    some-of (some n) e = (n, refl)
+
+    held : (n : ℕ) × (p .held ≡ some n)
+    held = some-of (p .held) hs
+
+    ok : isFaulty (p .condition) ≡ false
+    ok = a .faulty-marked x ∙ fx
+
+-- ---- what the tests before them give, and the whole delivery
+
+roles-ag : (kit : Kit) (s m x : ℕ) → hasWrongRoles kit s m x ≡ false → m ≡ 0 → (s ≢ x) × (isActive kit x ≡ true)
+unfolding hasWrongRoles
+roles-ag kit s m x e z =
+    let b = not (isActive kit s && isActive kit x) in
+    let e₁ : (eqb s x || b) ≡ false = rw z at e in (
+      eqb-false s x (or-l (eqb s x) b e₁),
+      and-r (isActive kit s) (isActive kit x)
+          (not-was-false (isActive kit s && isActive kit x) (or-r (eqb s x) b e₁)),
+    )
+
+roles-up : (kit : Kit) (s m x : ℕ) → hasWrongRoles kit s m x ≡ false → m ≡ 1 → isActive kit x ≡ false
+unfolding hasWrongRoles
+roles-up kit s m x e z =
+    let b = not (isActive kit s && not (isActive kit x)) in
+    let e₁ : (eqb s x || b) ≡ false = rw z at e in
+    not-was-true (isActive kit x) (and-r (isActive kit s) (not (isActive kit x))
+    (not-was-false (isActive kit s && not (isActive kit x)) (or-r (eqb s x) b e₁)))
+
+in-time-running : (m : ℕ) (p : Replica) → isTooLate m p ≡ false → eqb m 2 ≡ false → isRunning (p .condition) ≡ true
+unfolding isTooLate
+in-time-running m p e z = not-was-false (isRunning (p .condition)) (rw z at e)
+
+in-time-open : (m : ℕ) (p : Replica) → isTooLate m p ≡ false → m ≡ 2 → isClosed (p .condition) ≡ false
+unfolding isTooLate
+in-time-open m p e z = rw z at e
+
+pub next-deliver : (kit : Kit) → Roles kit → (r : Room) → Invariant kit r → (s m v x : ℕ) → m ≤ 2 → Next kit r (onDeliver kit r s m v x .room)
+unfolding onDeliver
+next-deliver kit roles r a s m v x m2 =
+    next-refuse kit r a _ _ _ λ fy. next-refuse kit r a _ _ _ λ iss. next-refuse kit r a _ _ _ λ lt. next-refuse kit r a _ _ _ λ ea.
+    next-refuse kit r a _ _ _ λ ro. next-refuse kit r a _ _ _ λ va.
+    let fx = sym (a .faulty-marked x) ∙ fy in
+    let ev = eqb-true v (suc (r .replica x .accepted s m)) (not-was-false (eqb v (suc (r .replica x .accepted s m))) va) in
+    pick-elim (λ (z : Outcome). Next kit r (z .room)) (eqb m 0)
+    (λ t. let z = eqb-true m 0 t in
+    let ro₁ = roles-ag kit s m x ro z in
+    next-ag kit roles r a s v x _ (rw z) fx (ro₁ .1) (ro₁ .0) (in-time-running m (r .replica x) lt (rw z)) (rw z at ev))
+    (λ t. pick-elim (λ (z : Outcome). Next kit r (z .room)) (eqb m 1)
+    (λ t₁. let z = eqb-true m 1 t₁ in
+    next-up kit r a s v x _ (rw z) fx (roles-up kit s m x ro z) (in-time-running m (r .replica x) lt (rw z)) (rw z at ev))
+    (λ t₁. let n0 : m ≢ 0 = eqb-false m 0 t in
+    let n1 : m ≢ 1 = eqb-false m 1 t₁ in
+    let z : m ≡ 2 = omega arith in
+    next-sw kit roles r a s v x _ fx (in-time-open m (r .replica x) lt z) (not-was-false (isSome (r .replica x .held)) (rw z at ea))))

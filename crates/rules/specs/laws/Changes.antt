@@ -1,0 +1,161 @@
+-- What an event can do to the room that it is handed: nothing if it is refused; else a few changes, of which at most three issue a
+-- certificate. Every law that goes over all kinds of event comes from `event-comes`. Assumes nothing.
+use mathlib.Core.Path.{_≡_, refl}
+use mathlib.Core.Bool.{Bool, true, false}
+use mathlib.Core.Logic.{_≢_}
+use mathlib.Core.List.{List, [], _∷_}
+use Prim.Native.Nat.{ℕ, _≤_}
+use native.Mathlib.Omega.{arith}
+use lib.ListN.{length}
+use lib.Dec.{eqb, leb, ltb}
+use Rattle.terms.specs.Lists.{pick}
+use Rattle.terms.specs.Kit.{Kit}
+use Rattle.terms.specs.declared.Content.{Content}
+use Rattle.terms.specs.declared.Event.{Event}
+use Rattle.terms.specs.declared.Event.the-variants.{Submit, Issue, Deliver, Hand, Panic, Idle, Build, File}
+use Rattle.terms.specs.declared.Answer.{Answer}
+use Rattle.terms.specs.declared.Answer.the-variants.{Taken}
+use Rattle.rules.specs.Table.{ag, up, sw}
+use Rattle.rules.specs.Room.{Room, Replica, Filing, withReplica, withHistory, remember, issue, accept}
+use Rattle.rules.specs.Reading.{isRunning}
+use Rattle.rules.specs.Outcome.{Outcome, refuse, taken}
+use Rattle.rules.specs.Submit.{afterSubmit, onSubmit, onIssue, onFile}
+use Rattle.rules.specs.Deliver.{settle, switches, afterPrepare, afterCommit, onAg, afterUpdate, onUp, afterSwitch, onSw, onDeliver}
+use Rattle.rules.specs.Switching.{onPanic, afterBuild, onBuild, afterHand, onHand}
+use Rattle.rules.specs.Play.{onEvent}
+
+-- ---- changes
+
+-- one part of a room anew
+pub data Change : Type 0 where
+  recorded : ℕ → Replica → Change
+  issued : ℕ → ℕ → Content → Change
+  filed : Filing → ℕ → Change
+  remembered : ℕ → Change
+
+abbrev pub change : Room → Change → Room
+change r (recorded x p) = withReplica r x p
+change r (issued x name content) = issue r x name content
+change r (filed h n) = withHistory r h n
+change r (remembered request) = remember r request
+
+-- the room after some changes
+abbrev pub changed : Room → List Change → Room
+changed r [] = r
+changed r (c ∷ cs) = changed (change r c) cs
+
+-- a certificate's replica, name and content; its value is its place
+pub record Certificate : Type 0 where
+  pub replica : ℕ
+  pub name : ℕ
+  pub content : Content
+
+-- those that some changes issue
+abbrev pub certificates : List Change → List Certificate
+certificates [] = []
+certificates (recorded x p ∷ cs) = certificates cs
+certificates (issued x name content ∷ cs) = record { replica = x; name = name; content = content } ∷ certificates cs
+certificates (filed h n ∷ cs) = certificates cs
+certificates (remembered request ∷ cs) = certificates cs
+
+-- r₁ is r after a few changes
+pub record Few (r r₁ : Room) : Type 0 where
+  pub changes : List Change
+  pub few : length (certificates changes) ≤ 3
+  pub gives : r₁ ≡ changed r changes
+
+-- ---- every event
+
+-- what an event comes to in room r
+pub record Comes (r : Room) (o : Outcome) : Type 0 where
+  pub refused : o .answer ≢ Taken → o .room ≡ r
+  pub few : Few r (o .room)
+
+no : 0 ≤ 3
+no = omega arith
+
+one : 1 ≤ 3
+one = omega arith
+
+two : 2 ≤ 3
+two = omega arith
+
+three : 3 ≤ 3
+three = omega arith
+
+module _ {r : Room} where
+  comes-refused : (t : Bool) (a : Answer) (o : Outcome) → Comes r o → Comes r (refuse t a r o)
+  unfolding refuse
+  comes-refused true a o c = record { refused = λ d. refl; few = record { changes = []; few = no; gives = refl } }
+  comes-refused false a o c = c
+
+  comes-either : (t : Bool) (o o₁ : Outcome) → Comes r o → Comes r o₁ → Comes r (pick t o o₁)
+  comes-either true o o₁ c d = c
+  comes-either false o o₁ c d = d
+
+  comes-taken : {r₁ : Room} → Few r r₁ → Comes r (taken r₁)
+  comes-taken f = record { refused = λ d. absurd (d refl); few = f }
+
+  few-pick : (t : Bool) {a b : Room} → Few r a → Few r b → Few r (pick t a b)
+  few-pick true f g = f
+  few-pick false f g = g
+
+  few-recorded : (x : ℕ) (p : Replica) → Few r (withReplica r x p)
+  few-recorded x p = record { changes = recorded x p ∷ []; few = no; gives = refl }
+
+few-submit : (kit : Kit) (r : Room) (request : ℕ) → Few r (afterSubmit kit r request)
+unfolding afterSubmit
+few-submit kit r request =
+    few-pick (isRunning (r .replica (kit .leader) .condition))
+    (record { changes = remembered request ∷ recorded _ _ ∷ issued _ _ _ ∷ []; few = one; gives = refl })
+    (record { changes = remembered request ∷ []; few = no; gives = refl })
+
+few-settle : (r : Room) (x : ℕ) (p : Replica) (c d : ℕ) → Few r (settle r x p c d)
+unfolding settle
+few-settle r x p c d = few-pick (ltb c d) (record { changes = recorded _ _ ∷ issued _ _ _ ∷ []; few = one; gives = refl }) (few-recorded x p)
+
+-- the same after a COMMIT
+few-commit-settle : (r : Room) (y : ℕ) (content : Content) (x : ℕ) (p : Replica) (c d : ℕ) → Few r (settle (issue r y ag content) x p c d)
+unfolding settle
+few-commit-settle r y content x p c d =
+    few-pick (ltb c d)
+    (record { changes = issued y ag content ∷ recorded _ _ ∷ issued _ _ _ ∷ []; few = two; gives = refl })
+    (record { changes = issued y ag content ∷ recorded _ _ ∷ []; few = one; gives = refl })
+
+comes-deliver : (kit : Kit) (r : Room) (sender name value to : ℕ) → Comes r (onDeliver kit r sender name value to)
+unfolding onDeliver onAg afterPrepare afterCommit onUp afterUpdate onSw afterSwitch
+comes-deliver kit r sender name value to =
+    comes-refused _ _ _ (comes-refused _ _ _ (comes-refused _ _ _ (comes-refused _ _ _ (comes-refused _ _ _ (comes-refused _ _ _
+    (comes-either (eqb name ag) _ _
+    (comes-either (eqb sender (kit .leader)) _ _
+    (comes-refused _ _ _ (comes-taken (few-commit-settle r _ _ _ _ _ _)))
+    (comes-refused _ _ _ (comes-taken (few-settle r _ _ _ _))))
+    (comes-either (eqb name up) _ _
+    (comes-either (leb value (length (r .replica to .noted))) _ _
+    (comes-refused _ _ _ (comes-taken (few-recorded to _)))
+    (comes-refused _ _ _ (comes-taken (few-recorded to _))))
+    (comes-refused _ _ _ (comes-taken (few-pick (leb (kit .f) (switches kit (accept (r .replica to) sender sw value))) (few-recorded to _) (few-recorded to _)))))))))))
+
+comes-hand : (kit : Kit) (r : Room) (p q to : ℕ) → Comes r (onHand kit r p q to)
+unfolding onHand afterHand
+comes-hand kit r p q to =
+    comes-refused _ _ _ (comes-refused _ _ _ (comes-refused _ _ _ (comes-refused _ _ _ (comes-refused _ _ _ (comes-refused _ _ _
+    (comes-taken (record { changes = recorded _ _ ∷ issued _ _ _ ∷ []; few = one; gives = refl })))))))
+
+comes-build : (kit : Kit) (r : Room) → Comes r (onBuild kit r)
+unfolding onBuild afterBuild
+comes-build kit r =
+    comes-refused _ _ _
+    (comes-taken (record { changes = filed _ _ ∷ recorded _ _ ∷ issued _ _ _ ∷ issued _ _ _ ∷ issued _ _ _ ∷ []; few = three; gives = refl }))
+
+pub event-comes : (kit : Kit) (r : Room) (e : Event) (list : List ℕ) → Comes r (onEvent kit r e list)
+unfolding onEvent onSubmit onIssue onFile onPanic
+event-comes kit r (Submit request) list = comes-refused _ _ _ (comes-refused _ _ _ (comes-taken (few-submit kit r request)))
+event-comes kit r (Issue x name content) list =
+    comes-refused _ _ _ (comes-refused _ _ _ (comes-refused _ _ _ (comes-taken (record { changes = issued x name content ∷ []; few = one; gives = refl }))))
+event-comes kit r (Deliver sender name value to) list = comes-deliver kit r sender name value to
+event-comes kit r (Hand p q to) list = comes-hand kit r p q to
+event-comes kit r (Panic to) list = comes-refused _ _ _ (comes-refused _ _ _ (comes-taken (few-recorded to _)))
+event-comes kit r Idle list = comes-taken (record { changes = []; few = no; gives = refl })
+event-comes kit r Build list = comes-build kit r
+event-comes kit r (File j k) list = comes-refused _ _ _ (comes-taken (record { changes = filed _ _ ∷ []; few = no; gives = refl }))

@@ -1,0 +1,98 @@
+-- A function of numbers laid out as a list, and a function of a replica and a counter's name as a list of 21 rows, with the laws of both.
+-- Assumes nothing.
+use mathlib.Core.Path.{_≡_, refl, sym, ap, _∙_, fun-ext}
+use mathlib.Core.Bool.{Bool, _&&_}
+use mathlib.Core.Logic.{_≢_}
+use mathlib.Core.List.{List, [], _∷_}
+use Prim.Native.Nat.{ℕ, zero, suc, _+_, _*_, _/_, _%_, _<_}
+use native.Mathlib.Nat.{le-of-suc-le-suc}
+use native.Mathlib.Omega.{arith}
+use lib.ListN.{length, getD, set, replicate, length-set}
+use lib.Seq.{ext-getD, getD-set-same, getD-set-other}
+use lib.Dec.{eqb}
+use borrow.Author.Tests.{eqb-true, eqb-false, eq-eqb, ne-eqb}
+use Rattle.terms.specs.Lists.{pick}
+use Rattle.terms.specs.ListLaws.{split}
+
+module _ {ℓ} {A : Type ℓ} where
+  -- f 0, f 1, .. f (n - 1)
+  unfoldable pub tab : ℕ → (ℕ → A) → List A
+  tab zero f = []
+  tab (suc n) f = f 0 ∷ tab n (λ i. f (suc i))
+
+  pub length-tab : (n : ℕ) (f : ℕ → A) → length (tab n f) ≡ n
+  unfolding tab
+  length-tab zero f = refl
+  length-tab (suc n) f = ap suc (length-tab n (λ i. f (suc i)))
+
+  pub getD-tab : (n : ℕ) (f : ℕ → A) (i : ℕ) (d : A) → i < n → getD (tab n f) i d ≡ f i
+  unfolding tab
+  getD-tab zero f i d h = absurd (omega arith)
+  getD-tab (suc n) f zero d h = refl
+  getD-tab (suc n) f (suc i) d h = getD-tab n (λ j. f (suc j)) i d (le-of-suc-le-suc h)
+
+  pub tab-ext : (n : ℕ) (f g : ℕ → A) → ((i : ℕ) → i < n → f i ≡ g i) → tab n f ≡ tab n g
+  unfolding tab
+  tab-ext zero f g e = refl
+  tab-ext (suc n) f g e = cc (e 0 (omega arith), tab-ext n (λ i. f (suc i)) (λ i. g (suc i)) (λ i h. e (suc i) (omega arith)))
+
+  -- one element anew is one value of the function anew
+  pub set-tab : (n : ℕ) (f : ℕ → A) (i : ℕ) (v : A) → set (tab n f) i v ≡ tab n (λ j. pick (eqb j i) v (f j))
+  set-tab n f i v =
+      let g : ℕ → A = λ j. pick (eqb j i) v (f j) in
+      ext-getD v (set (tab n f) i v) (tab n g) (rw (length-set (tab n f) i v, length-tab n f, length-tab n g))
+      (λ j h.
+      let below : j < n = rw (length-set (tab n f) i v, length-tab n f) at h in
+      split (eqb j i)
+      (λ t. let e : i ≡ j = sym (eqb-true j i t) in
+      rw (getD-tab n g j v below, t, e) (getD-set-same (tab n f) j v v (rw (length-tab n f) below)))
+      (λ t. rw (getD-tab n g j v below, t) (getD-set-other (tab n f) i j v v (eqb-false j i t) ∙ getD-tab n f j v below)))
+
+  pub tab-constant : (n : ℕ) (a : A) → tab n (λ i. a) ≡ replicate n a
+  unfolding tab
+  tab-constant zero a = refl
+  tab-constant (suc n) a = ap (λ (l : List A). a ∷ l) (tab-constant n a)
+
+  -- replica x's counter of name m stands at 3 * x + m
+  unfoldable pub grid : (ℕ → ℕ → A) → List A
+  grid g = tab 21 (λ i. g (i / 3) (i % 3))
+
+  pub length-grid : (g : ℕ → ℕ → A) → length (grid g) ≡ 21
+  unfolding grid
+  length-grid g = length-tab 21 (λ i. g (i / 3) (i % 3))
+
+  pub getD-grid : (g : ℕ → ℕ → A) (x m : ℕ) (d : A) → x < 7 → m < 3 → getD (grid g) (3 * x + m) d ≡ g x m
+  unfolding grid
+  getD-grid g x m d hx hm =
+      let q : (3 * x + m) / 3 ≡ x = omega arith in
+      let r : (3 * x + m) % 3 ≡ m = omega arith in
+      getD-tab 21 (λ i. g (i / 3) (i % 3)) (3 * x + m) d (omega arith) ∙ rw (q, r)
+
+  pub set-grid : (g : ℕ → ℕ → A) (x m : ℕ) (v : A) → m < 3 → set (grid g) (3 * x + m) v ≡ grid (λ y n. pick (eqb n m && eqb y x) v (g y n))
+  unfolding grid
+  set-grid g x m v hm =
+      set-tab 21 (λ i. g (i / 3) (i % 3)) (3 * x + m) v
+      ∙ tab-ext 21 _ _ (λ i h. ap (λ (t : Bool). pick t v (g (i / 3) (i % 3))) (place-is i))
+    where
+      place-is : (i : ℕ) → eqb i (3 * x + m) ≡ (eqb (i % 3) m && eqb (i / 3) x)
+      place-is i =
+          split (eqb i (3 * x + m))
+          (λ t. let e : i ≡ 3 * x + m = eqb-true i (3 * x + m) t in
+          let q : i / 3 ≡ x = omega arith in
+          let r : i % 3 ≡ m = omega arith in
+          rw (t, eq-eqb (i % 3) m r, eq-eqb (i / 3) x q))
+          (λ t. let e : i ≢ 3 * x + m = eqb-false i (3 * x + m) t in
+          split (eqb (i % 3) m)
+          (λ u. let r : i % 3 ≡ m = eqb-true (i % 3) m u in
+          rw (t, u, ne-eqb (i / 3) x (λ q. e (omega arith))))
+          (λ u. rw (t, u)))
+
+  pub grid-constant : (a : A) → grid (λ x m. a) ≡ replicate 21 a
+  unfolding grid
+  grid-constant a = tab-constant 21 a
+
+-- the same where every row is made of a value by h
+pub set-grid-of {ℓ ℓ′} : {A : Type ℓ} {B : Type ℓ′} (h : A → B) (g : ℕ → ℕ → A) (x m : ℕ) (v : A) → m < 3 → set (grid (λ y n. h (g y n))) (3 * x + m) (h v) ≡ grid (λ y n. h (pick (eqb n m && eqb y x) v (g y n)))
+set-grid-of {A = A} h g x m v hm =
+    set-grid (λ y n. h (g y n)) x m (h v) hm
+    ∙ ap grid (fun-ext (λ y. fun-ext (λ n. split (eqb n m && eqb y x) (λ t. rw t) (λ t. rw t))))
