@@ -1,8 +1,8 @@
 -- The judge, one number at a time: what it says in each phase and what it knows afterwards. That it is the plain parser of Parser is
 -- proved in Judging. Assumes nothing.
-use mathlib.Core.Bool.{Bool, true, false, _||_, _&&_}
-use mathlib.Core.List.{List, [], _∷_}
-use Prim.Native.Nat.{ℕ, zero, suc, _+_, _-_, _/_}
+use mathlib.Core.Bool.{Bool, false, _||_, _&&_}
+use mathlib.Core.List.{[], _∷_}
+use Prim.Native.Nat.{ℕ, _+_, _-_, _/_}
 use lib.Dec.{ltb, leb, eqb}
 use lib.ListN.{length}
 use Rattle.terms.specs.Limits.{replicas, faultsMax, ticksMax, eventsMax}

@@ -1,12 +1,12 @@
 -- The judge, fed a list of numbers one at a time, says what the plain parser says of the list. Assumes nothing.
 use mathlib.Core.Path.{_≡_, refl, sym, ap, _∙_}
 use mathlib.Core.Bool.{Bool, true, false, _&&_, _||_}
-use mathlib.Core.List.{List, [], _∷_, _++_, append-assoc}
+use mathlib.Core.List.{List, [], _∷_, _++_}
 use Prim.Native.Nat.{ℕ, zero, suc, _+_, _-_, _/_, _≤_, _<_}
 use native.Mathlib.Omega.{arith}
 use native.Mathlib.Numerals.{add-one}
 use native.Mathlib.Nat.{zero-add}
-use borrow.Author.Tests.{lt-ltb, le-ltb, le-leb, lt-leb, eq-eqb, ne-eqb, ltb-true, leb-true}
+use borrow.Author.Tests.{lt-ltb, le-ltb, lt-leb, eq-eqb, ne-eqb, ltb-true, leb-true}
 use lib.Dec.{eqb, leb, ltb, eqb·suc-suc}
 use lib.ListN.{getD, length, length-append}
 use lib.Seq.{getD-at, append-snoc}
@@ -14,7 +14,7 @@ use Rattle.terms.specs.Limits.{replicas, faultsMax, ticksMax, eventsMax}
 use Rattle.terms.specs.Lists.{pick, within, countOf}
 use mathlib.Core.Logic.{_⊎_, inl, inr}
 use Rattle.terms.specs.ListLaws.{split, and-r, no-way}
-use Rattle.terms.specs.Kit.{Kit, Entry, marksActive, marksFaulty, isTableNumber, isRequest}
+use Rattle.terms.specs.Kit.{Kit, marksActive, marksFaulty, isTableNumber, isRequest}
 use Rattle.terms.specs.Numbers.{kindOf}
 use Rattle.terms.specs.declared.Kind.{Kind}
 use Rattle.terms.specs.declared.KindChoice.{KindChoice}
@@ -24,7 +24,7 @@ use Rattle.terms.specs.declared.KitAnswer.the-variants.{Accepted, Cut, WrongSet
 use Rattle.grammar.specs.Operands.{operandsOf, operandOf, fits, filedBy}
 use Rattle.grammar.specs.Parser.{Parsed, Refusal, Read, number, andThen, several, alone, operands, eventAfter, kindAfter, entry, tableRight, judged, parse, answerOf, kitAnswer}
 use Rattle.grammar.specs.ParserLaws.{table-reads}
-use Rattle.grammar.specs.Automaton.{on, moreOf, doneOf, refusedOf, withSize, withTurn, withTally, withLeft, withPending, withRequests, atF, atLeader, emptyTally, atPatience, plusOne, tallied, tallyRight, tableDone, tableGoes, atTable, atCount, atGap, completed, filesGoes, filing, operandGoes, begun, kindGoes, atKind, kept, operandRight, atOperand, atRequest, inPhase, feedOf, fresh}
+use Rattle.grammar.specs.Automaton.{on, moreOf, doneOf, refusedOf, withSize, withTurn, withTally, withLeft, withPending, withRequests, atF, atLeader, emptyTally, atPatience, plusOne, tallied, tallyRight, tableDone, atTable, atCount, atGap, completed, filesGoes, filing, operandGoes, begun, kindGoes, atKind, kept, operandRight, atOperand, atRequest, inPhase, feedOf, fresh}
 use Rattle.grammar.specs.declared.operands.Operand.{Operand}
 use Rattle.grammar.specs.declared.operands.Operand.the-variants.{Any, Replica, Name, Content, B, Request, K, E}
 use Rattle.grammar.specs.declared.Phase.{Phase}

@@ -1,6 +1,6 @@
 -- Which lists of numbers are a kit, and what the others are refused with: the numbers are read from left to right as document 01 says,
 -- each judged once it is read, the table after its last replica. Knows no state and no phase. Laws: ParserLaws. Assumes nothing.
-use mathlib.Core.Bool.{Bool, true, false, _&&_}
+use mathlib.Core.Bool.{Bool, _&&_}
 use mathlib.Core.List.{List, [], _∷_, _++_}
 use Prim.Native.Nat.{ℕ, zero, suc, _+_}
 use lib.Dec.{eqb, leb, ltb}
@@ -45,7 +45,7 @@ alone test fault ns = number ns test fault Read
 
 -- ---- events
 
--- the operands of a row, each judged by its size and the operands before it
+-- the operands of a row, each judged by how many replicas there are and the operands before it
 abbrev pub operands : ℕ → List Operand → List ℕ → List ℕ → Parsed (List ℕ)
 operands size [] ops ns = Read ops ns
 operands size (o ∷ row) ops ns = number ns (fits o size ops) WrongEvent (λ n ns₁. operands size row (ops ++ (n ∷ [])) ns₁)

@@ -1,17 +1,17 @@
 -- The lists of numbers that Parser reads as a kit are the numbers of document 01's kits, and no others. Assumes nothing.
 use mathlib.Core.Path.{_≡_, refl, sym, ap, _∙_}
-use mathlib.Core.Bool.{Bool, true, false, _&&_, _||_}
+use mathlib.Core.Bool.{Bool, true, false, _||_}
 use mathlib.Core.List.{List, [], _∷_, _++_, append-assoc, append-nil}
 use mathlib.Core.Option.{some}
-use Prim.Native.Nat.{ℕ, zero, suc, _+_, _-_, _≤_, _<_, _^_}
+use Prim.Native.Nat.{ℕ, zero, suc, _+_, _-_, _≤_, _<_}
 use native.Mathlib.Omega.{arith}
 use borrow.Author.Tests.{ltb-true, leb-true, eqb-true, lt-ltb, le-leb, eq-eqb, ne-eqb}
 use lib.Dec.{eqb, leb, ltb}
 use lib.ListN.{getD, length}
 use Rattle.terms.specs.Limits.{replicas, faultsMax, ticksMax, eventsMax, requestsMax}
-use Rattle.terms.specs.Lists.{pick, within, countOf, allOf, nth}
+use Rattle.terms.specs.Lists.{within, countOf, allOf, nth}
 use Rattle.terms.specs.ListLaws.{split, no-way, and-l, and-r, allOf-at}
-use Rattle.terms.specs.Kit.{Kit, Entry, GoodKit, GoodEntry, GoodEvent, GoodEntries, marksActive, marksFaulty, isTableNumber, isRequest, kitNumbers, entryNumbers, entriesNumbers, eventNumbers}
+use Rattle.terms.specs.Kit.{Kit, Entry, GoodKit, GoodEntry, GoodEvent, marksActive, marksFaulty, isTableNumber, isRequest, kitNumbers, entryNumbers, entriesNumbers, eventNumbers}
 use Rattle.terms.specs.Numbers.{kindOf, kindNumber, contentOf, contentNumbers}
 use Rattle.terms.specs.declared.Content.{Content}
 use Rattle.terms.specs.declared.Content.the-variants as Content
@@ -24,8 +24,8 @@ use Rattle.terms.specs.declared.Kind.the-variants as Kind
 use Rattle.terms.specs.declared.KindChoice.{KindChoice}
 use Rattle.terms.specs.declared.KindChoice.the-variants as KindChoice
 use Rattle.terms.specs.declared.KitAnswer.{KitAnswer}
-use Rattle.terms.specs.declared.KitAnswer.the-variants.{Accepted, Cut, WrongSettings, WrongEvent, Excess}
-use Rattle.grammar.specs.Operands.{operandsOf, fits, filedBy, filedOf, eventOf, issueOf, usesB}
+use Rattle.terms.specs.declared.KitAnswer.the-variants.{Accepted, WrongSettings, WrongEvent}
+use Rattle.grammar.specs.Operands.{operandsOf, fits, filedBy, filedOf, eventOf, usesB}
 use Rattle.grammar.specs.declared.operands.Operand.{Operand}
 use Rattle.grammar.specs.Parser.{Parsed, Refusal, Read, number, andThen, several, alone, operands, eventAfter, kindAfter, entry, tableRight, judged, parse, answerOf, kitAnswer}
 

@@ -8,6 +8,14 @@ ghost use lib.ListN.{getD, length};
 ghost use Rattle.terms.specs.Kit.{isRequest};
 ghost use Rattle.terms.specs.Lists.{within};
 ghost use Rattle.grammar.specs.Operands.{operandsOf, operandOf, fits, usesB, eventOf, filedOf, filedBy};
+use self::Operand::Any;
+use self::Operand::B;
+use self::Operand::Content;
+use self::Operand::E;
+use self::Operand::K;
+use self::Operand::Name;
+use self::Operand::Replica;
+use self::Operand::Request;
 use terms::ContentChoice;
 use terms::Event;
 use terms::Kind;
@@ -67,56 +75,14 @@ pub fn operand_of(kind: Kind, at: usize) -> Operand
     ensures { λ r. ⌜ r ≡ operandOf kind at ⌝ }
 {
     match kind {
-        Kind::Submit => in_row(
-            Operand::Request,
-            Operand::Any,
-            Operand::Any,
-            Operand::Any,
-            Operand::Any,
-            at,
-        ),
-        Kind::Issue => in_row(
-            Operand::Replica,
-            Operand::Name,
-            Operand::Content,
-            Operand::Any,
-            Operand::B,
-            at,
-        ),
-        Kind::Deliver => in_row(
-            Operand::Replica,
-            Operand::Name,
-            Operand::Any,
-            Operand::Replica,
-            Operand::Any,
-            at,
-        ),
-        Kind::Hand => in_row(
-            Operand::Any,
-            Operand::Any,
-            Operand::Replica,
-            Operand::Any,
-            Operand::Any,
-            at,
-        ),
-        Kind::Panic => in_row(
-            Operand::Replica,
-            Operand::Any,
-            Operand::Any,
-            Operand::Any,
-            Operand::Any,
-            at,
-        ),
-        Kind::Idle => Operand::Any,
-        Kind::Build => Operand::Any,
-        Kind::File => in_row(
-            Operand::Any,
-            Operand::K,
-            Operand::E,
-            Operand::Any,
-            Operand::Any,
-            at,
-        ),
+        Kind::Submit => in_row(Request, Any, Any, Any, Any, at),
+        Kind::Issue => in_row(Replica, Name, Content, Any, B, at),
+        Kind::Deliver => in_row(Replica, Name, Any, Replica, Any, at),
+        Kind::Hand => in_row(Any, Any, Replica, Any, Any, at),
+        Kind::Panic => in_row(Replica, Any, Any, Any, Any, at),
+        Kind::Idle => Any,
+        Kind::Build => Any,
+        Kind::File => in_row(Any, K, E, Any, Any, at),
     }
 }
 

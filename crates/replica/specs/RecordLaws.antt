@@ -100,7 +100,7 @@ actives-then-zeros : (n : ℕ) (l : List ℕ) (x : ℕ) → activesFrom (l ++ re
 actives-then-zeros n [] x = zeros-passive n x
 actives-then-zeros n (k ∷ l) x = rw (actives-then-zeros n l (suc x))
 
-actives-laid : (l : List ℕ) → activesFrom (pad 7 l) 0 ≡ activesFrom l 0
+pub actives-laid : (l : List ℕ) → activesFrom (pad 7 l) 0 ≡ activesFrom l 0
 unfolding pad
 actives-laid l = actives-then-zeros (7 - length l) l 0
 

@@ -10,8 +10,8 @@ use Prim.Native.Nat.{ℕ, suc, _≤_, _<_}
 use native.Mathlib.Omega.{arith}
 use lib.ListN.{length, take}
 use lib.Dec.{eqb}
-use borrow.Author.Tests.{eqb-false, ne-eqb, leb-false}
-use Rattle.terms.specs.Limits.{filedMax}
+use borrow.Author.Tests.{eqb-true, eqb-false, ne-eqb, leb-false}
+use Rattle.terms.specs.Limits.{filedMax, nameMax}
 use Rattle.terms.specs.Lists.{nth, isSome}
 use Rattle.terms.specs.ListLaws.{split, no-way, length-snoc, or-l, eqb-same}
 use Rattle.terms.specs.Kit.{Kit, Entry}
@@ -43,6 +43,8 @@ pub record FilesFew (kit : Kit) (r : Room) : Type 0 where
   pub unbuilt : r .replica (switchLeader kit) .held ≡ none → length (r .histories) ≡ r .filed
   pub switched : (x : ℕ) → isFaulty (r .replica x .condition) ≡ false → Switched (r .replica x) (r .counter x sw)
   pub faulty-few : FaultyFew r
+  -- and a correct replica has no other counters
+  pub unnamed : (x name : ℕ) → isFaulty (r .replica x .condition) ≡ false → nameMax < name → r .counter x name ≡ []
 
 few-calm : (kit : Kit) {r r₁ : Room} → Calm r r₁ → FilesFew kit r → FilesFew kit r₁
 few-calm kit c h =
@@ -53,8 +55,9 @@ few-calm kit c h =
       switched = λ x f.
           let fx = sym (c .faulty-same x) ∙ f in
           let s = h .switched x fx in
-          rw (c .sw-same x fx) (record { silent = λ e. s .silent (sym (c .held-same x) ∙ e); once = s .once });
+          rw (c .others-same x sw fx (omega arith)) (record { silent = λ e. s .silent (sym (c .held-same x) ∙ e); once = s .once });
       faulty-few = c .faulty-few (h .faulty-few);
+      unnamed = λ x n f l. let fx = sym (c .faulty-same x) ∙ f in c .others-same x n fx (omega arith) ∙ h .unnamed x n fx l;
     }
 
 few-refuse : (kit : Kit) (r : Room) → FilesFew kit r → (t : Bool) (a : Answer) (o : Outcome) → (t ≡ false → FilesFew kit (o .room))
@@ -74,6 +77,7 @@ few-file kit r h j k list =
       unbuilt = λ z. omega (arith, s, h .unbuilt z);
       switched = h .switched;
       faulty-few = h .faulty-few;
+      unnamed = h .unnamed;
     }
 
 -- correct replica x, which held nothing, holds h and issues SWITCH of it
@@ -94,6 +98,15 @@ module _ (kit : Kit) (r : Room) (few : FilesFew kit r) (x h : ℕ)
       (λ t. let d₁ : isFaulty (r .replica x .condition) ≡ true = rw t at d in no-way (cc))
       (λ t. let d₁ : isFaulty (r .replica y .condition) ≡ true = rw t at d in rw (t, and-false (eqb n sw)) (few .faulty-few y n d₁))
 
+  unnamed-hold : (y n : ℕ) → isFaulty (afterHand r x h .replica y .condition) ≡ false → nameMax < n → afterHand r x h .counter y n ≡ []
+  unfolding afterHand issue withReplica hold
+  unnamed-hold y n d l =
+      let z : n ≢ sw = omega arith in
+      rw (ne-eqb n sw z)
+      (split (eqb y x)
+      (λ t. let f : isFaulty (r .replica y .condition) ≡ false = rw (eqb-true y x t) fx in few .unnamed y n f l)
+      (λ t. few .unnamed y n (rw t at d) l))
+
 few-hold : (kit : Kit) (r : Room) → FilesFew kit r → (x h : ℕ) → x ≢ switchLeader kit → isFaulty (r .replica x .condition) ≡ false
     → r .replica x .held ≡ none
     → FilesFew kit (afterHand r x h)
@@ -105,6 +118,7 @@ few-hold kit r few x h d fx free =
       unbuilt = λ e. few .unbuilt (rw (ne-eqb (switchLeader kit) x (λ z. d (sym z))) at e);
       switched = switched-hold kit r few x h fx free;
       faulty-few = faulty-few-hold kit r few x h fx free;
+      unnamed = unnamed-hold kit r few x h fx free;
     }
 
 few-hand : (kit : Kit) (r : Room) → FilesFew kit r → (p q to : ℕ) → FilesFew kit (onHand kit r p q to .room)
@@ -135,6 +149,14 @@ few-build kit r few =
           (λ t. let d₁ : isFaulty (r .replica s .condition) ≡ true = rw t at d in no-way (cc))
           (λ t. let d₁ : isFaulty (r .replica y .condition) ≡ true = rw t at d in
           rw (t, and-false (eqb n ag), and-false (eqb n up), and-false (eqb n sw)) (few .faulty-few y n d₁));
+      unnamed = λ y n d l.
+          let z₀ : n ≢ ag = omega arith in
+          let z₁ : n ≢ up = omega arith in
+          let z₂ : n ≢ sw = omega arith in
+          rw (ne-eqb n ag z₀, ne-eqb n up z₁, ne-eqb n sw z₂)
+          (split (eqb y s)
+          (λ t. let f : isFaulty (r .replica y .condition) ≡ false = rw (eqb-true y s t) fs in few .unnamed y n f l)
+          (λ t. few .unnamed y n (rw t at d) l));
     }
 
 few-event : (kit : Kit) (r : Room) → FilesFew kit r → (e : Event) (list : List ℕ) → FilesFew kit (onEvent kit r e list .room)
@@ -148,11 +170,13 @@ few-event kit r h Idle list = h
 few-event kit r h Build list = few-build kit r h
 few-event kit r h (File j k) list = few-file kit r h j k list
 
+pub few-tick : (kit : Kit) (r : Room) → FilesFew kit r → (gap : ℕ) → FilesFew kit (tick kit r gap)
+few-tick kit r h gap = few-calm kit (calm-tick kit r gap) h
+
 few-play : (kit : Kit) (r : Room) → FilesFew kit r → (es : List Entry) → FilesFew kit (play kit r es)
 unfolding play step
 few-play kit r h [] = h
-few-play kit r h (e ∷ es) = few-play kit _ (few-event kit (tick kit r (e .gap)) (few-calm kit (calm-tick kit r (e .gap)) h) (e .event)
-    (e .requests)) es
+few-play kit r h (e ∷ es) = few-play kit _ (few-event kit (tick kit r (e .gap)) (few-tick kit r h (e .gap)) (e .event) (e .requests)) es
 
 few-fresh : (kit : Kit) → FilesFew kit (freshRoom kit)
 unfolding freshRoom freshReplica
@@ -163,6 +187,7 @@ few-fresh kit =
       unbuilt = λ e. refl;
       switched = λ x f. record { silent = λ e. refl; once = omega arith };
       faulty-few = λ x n f. omega arith;
+      unnamed = λ x n f l. refl;
     }
 
 pub files-few : (kit : Kit) (n : ℕ) → FilesFew kit (after kit n)

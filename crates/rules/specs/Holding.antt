@@ -8,7 +8,7 @@ use Prim.Native.Nat.{ℕ, _+_, _≤_, _<_}
 use native.Mathlib.Omega.{arith}
 use lib.ListN.{length, getD}
 use lib.Dec.{eqb, ltb, leb}
-use borrow.Author.Tests.{eqb-true, leb-false}
+use borrow.Author.Tests.{eqb-true, ne-eqb, leb-false}
 use Rattle.terms.specs.Limits.{placesMax}
 use Rattle.terms.specs.Lists.{pick, isSome}
 use Rattle.terms.specs.ListLaws.{split, pick-elim, no-way, length-snoc, not-was-false, or-l}
@@ -21,7 +21,7 @@ use Rattle.terms.specs.declared.Answer.{Answer}
 use Rattle.rules.specs.Table.{ag, up, sw, switchLeader}
 use Rattle.rules.specs.Room.{Room, Replica, withClock, withReplica, issue, withHistory, remember}
 use Rattle.rules.specs.Room.{withCondition, withMark, note, notePair, accept, hold}
-use Rattle.rules.specs.RoomLaws.{counter-other}
+use Rattle.rules.specs.RoomLaws.{replica-other, counter-other}
 use Rattle.rules.specs.Reading.{isRunning, isClosed, isFaulty}
 use Rattle.rules.specs.ReadingLaws.{running-open, running-correct}
 use Rattle.rules.specs.Clock.{overdue, panicAll, tick}
@@ -38,13 +38,20 @@ pub record Keeps (r r₁ : Room) : Type 0 where
   pub held : (x h : ℕ) → r .replica x .held ≡ some h → r₁ .replica x .held ≡ some h
   pub closed : (x : ℕ) → isClosed (r .replica x .condition) ≡ true → isClosed (r₁ .replica x .condition) ≡ true
   pub faulty : (x : ℕ) → isFaulty (r₁ .replica x .condition) ≡ isFaulty (r .replica x .condition)
+  -- a faulty replica's record is never touched
+  pub untouched : (x : ℕ) → isFaulty (r .replica x .condition) ≡ true → r₁ .replica x ≡ r .replica x
 
 pub keeps-refl : (r : Room) → Keeps r r
-keeps-refl r = record { held = λ x h e. e; closed = λ x e. e; faulty = λ x. refl }
+keeps-refl r = record { held = λ x h e. e; closed = λ x e. e; faulty = λ x. refl; untouched = λ x e. refl }
 
 pub keeps-trans : {a b c : Room} → Keeps a b → Keeps b c → Keeps a c
 keeps-trans f g =
-    record { held = λ x h e. g .held x h (f .held x h e); closed = λ x e. g .closed x (f .closed x e); faulty = λ x. g .faulty x ∙ f .faulty x }
+    record {
+      held = λ x h e. g .held x h (f .held x h e);
+      closed = λ x e. g .closed x (f .closed x e);
+      faulty = λ x. g .faulty x ∙ f .faulty x;
+      untouched = λ x e. g .untouched x (f .faulty x ∙ e) ∙ f .untouched x e;
+    }
 
 -- ---- events other than filing, building and handing over: everyone holds what it held
 
@@ -58,11 +65,13 @@ pub record Calm (r r₁ : Room) : Type 0 where
   pub held-same : (x : ℕ) → r₁ .replica x .held ≡ r .replica x .held
   pub closed-kept : (x : ℕ) → isClosed (r .replica x .condition) ≡ true → isClosed (r₁ .replica x .condition) ≡ true
   pub faulty-same : (x : ℕ) → isFaulty (r₁ .replica x .condition) ≡ isFaulty (r .replica x .condition)
-  pub sw-same : (x : ℕ) → isFaulty (r .replica x .condition) ≡ false → r₁ .counter x sw ≡ r .counter x sw
+  pub untouched-here : (x : ℕ) → isFaulty (r .replica x .condition) ≡ true → r₁ .replica x ≡ r .replica x
+  -- a correct replica issues on ag and up only
+  pub others-same : (x name : ℕ) → isFaulty (r .replica x .condition) ≡ false → sw ≤ name → r₁ .counter x name ≡ r .counter x name
   pub faulty-few : FaultyFew r → FaultyFew r₁
 
 calm-keeps : {r r₁ : Room} → Calm r r₁ → Keeps r r₁
-calm-keeps c = record { held = λ x h e. c .held-same x ∙ e; closed = c .closed-kept; faulty = c .faulty-same }
+calm-keeps c = record { held = λ x h e. c .held-same x ∙ e; closed = c .closed-kept; faulty = c .faulty-same; untouched = c .untouched-here }
 
 calm-refl : (r : Room) → Calm r r
 calm-refl r =
@@ -72,7 +81,8 @@ calm-refl r =
       held-same = λ x. refl;
       closed-kept = λ x e. e;
       faulty-same = λ x. refl;
-      sw-same = λ x e. refl;
+      untouched-here = λ x e. refl;
+      others-same = λ x n e l. refl;
       faulty-few = λ f. f;
     }
 
@@ -84,21 +94,23 @@ calm-trans f g =
       held-same = λ x. g .held-same x ∙ f .held-same x;
       closed-kept = λ x e. g .closed-kept x (f .closed-kept x e);
       faulty-same = λ x. g .faulty-same x ∙ f .faulty-same x;
-      sw-same = λ x e. g .sw-same x (f .faulty-same x ∙ e) ∙ f .sw-same x e;
+      untouched-here = λ x e. g .untouched-here x (f .faulty-same x ∙ e) ∙ f .untouched-here x e;
+      others-same = λ x n e l. g .others-same x n (f .faulty-same x ∙ e) l ∙ f .others-same x n e l;
       faulty-few = λ h. g .faulty-few (f .faulty-few h);
     }
 
 -- a correct replica issues on ag or up
-calm-issue : (r : Room) (x name : ℕ) (c : Content) → eqb sw name ≡ false → isFaulty (r .replica x .condition) ≡ false → Calm r (issue r x name c)
+calm-issue : (r : Room) (x name : ℕ) (c : Content) → name < sw → isFaulty (r .replica x .condition) ≡ false → Calm r (issue r x name c)
 unfolding issue
-calm-issue r x name c e fx =
+calm-issue r x name c small fx =
     record {
       histories-same = refl;
       filed-same = refl;
       held-same = λ y. refl;
       closed-kept = λ y d. d;
       faulty-same = λ y. refl;
-      sw-same = λ y d. rw e;
+      untouched-here = λ y d. refl;
+      others-same = λ y n d l. let z : n ≢ name = omega arith in rw (ne-eqb n name z);
       faulty-few = λ f y n d. let z : y ≢ x = λ w. no-way (cc (rw w at d)) in rw (counter-other r x name c y n z) (f y n d);
     }
 
@@ -113,7 +125,8 @@ calm-faulty r x name c fx room =
       held-same = λ y. refl;
       closed-kept = λ y d. d;
       faulty-same = λ y. refl;
-      sw-same = λ y d. let z : y ≢ x = λ w. no-way (cc (rw w at d)) in counter-other r x name c y sw z;
+      untouched-here = λ y d. refl;
+      others-same = λ y n d l. let z : y ≢ x = λ w. no-way (cc (rw w at d)) in counter-other r x name c y n z;
       faulty-few = λ f y n d.
           let z : length (r .counter x name ++ (c ∷ [])) ≤ placesMax = omega (arith, length-snoc (r .counter x name) c) in
           pick-elim (λ (l : List Content). length l ≤ placesMax) (eqb n name && eqb y x) (λ t. z) (λ t. f y n d);
@@ -128,27 +141,29 @@ calm-remember r request =
       held-same = λ y. refl;
       closed-kept = λ y d. d;
       faulty-same = λ y. refl;
-      sw-same = λ y d. refl;
+      untouched-here = λ y d. refl;
+      others-same = λ y n d l. refl;
       faulty-few = λ f. f;
     }
 
 calm-record : (r : Room) (x : ℕ) (p : Replica) → p .held ≡ r .replica x .held
     → (isClosed (r .replica x .condition) ≡ true → isClosed (p .condition) ≡ true)
-    → isFaulty (p .condition) ≡ isFaulty (r .replica x .condition) → Calm r (withReplica r x p)
+    → isFaulty (p .condition) ≡ false → isFaulty (r .replica x .condition) ≡ false → Calm r (withReplica r x p)
 unfolding withReplica
-calm-record r x p eh ec ef =
+calm-record r x p eh ec fp fx =
     record {
       histories-same = refl;
       filed-same = refl;
       held-same = λ y. split (eqb y x) (λ t. rw (t, eqb-true y x t) eh) (λ t. rw t);
       closed-kept = λ y d. split (eqb y x) (λ t. rw t (ec (rw (eqb-true y x t) at d))) (λ t. rw t d);
       faulty-same = faulty-now;
-      sw-same = λ y d. refl;
+      untouched-here = λ y d. let z : y ≢ x = λ w. no-way (cc (rw w at d)) in replica-other r x p y z;
+      others-same = λ y n d l. refl;
       faulty-few = λ f y n d. f y n (sym (faulty-now y) ∙ d);
     }
   where
     faulty-now : (y : ℕ) → isFaulty (pick (eqb y x) p (r .replica y) .condition) ≡ isFaulty (r .replica y .condition)
-    faulty-now y = split (eqb y x) (λ t. rw (t, eqb-true y x t) ef) (λ t. rw t)
+    faulty-now y = split (eqb y x) (λ t. rw (t, eqb-true y x t) (fp ∙ sym fx)) (λ t. rw t)
 
 calm-panicAll : (r : Room) (late : Option ℕ) → Calm r (panicAll r late)
 unfolding panicAll withCondition
@@ -159,7 +174,9 @@ calm-panicAll r late =
       held-same = λ x. split (isRunning (r .replica x .condition)) (λ t. rw t) (λ t. rw t);
       closed-kept = λ x e. split (isRunning (r .replica x .condition)) (λ t. no-way (cc (running-open (r .replica x .condition) t))) (λ t. rw t e);
       faulty-same = faulty-now;
-      sw-same = λ x e. refl;
+      untouched-here = λ x e.
+          split (isRunning (r .replica x .condition)) (λ t. no-way (cc (running-correct (r .replica x .condition) t))) (λ t. rw t);
+      others-same = λ x n e l. refl;
       faulty-few = λ f x n d. f x n (sym (faulty-now x) ∙ d);
     }
   where
@@ -175,7 +192,8 @@ calm-clock r n =
       held-same = λ y. refl;
       closed-kept = λ y d. d;
       faulty-same = λ y. refl;
-      sw-same = λ y d. refl;
+      untouched-here = λ y d. refl;
+      others-same = λ y n d l. refl;
       faulty-few = λ f. f;
     }
 
@@ -203,9 +221,9 @@ calm-settle : (r : Room) (x : ℕ) (p : Replica) (c d : ℕ) → p .held ≡ r .
 unfolding settle withMark
 calm-settle r x p c d eh ec fx =
     pick-elim (λ z. Calm r z) (ltb c d)
-    (λ t. let moved = calm-record r x (withMark p (nextMark (p .mark) (getD (p .noted) c 0))) eh (λ e. rw ec e) (ap isFaulty ec) in
-    calm-trans moved (calm-issue _ x up _ refl (moved .faulty-same x ∙ fx)))
-    (λ t. calm-record r x p eh (λ e. rw ec e) (ap isFaulty ec))
+    (λ t. let moved = calm-record r x (withMark p (nextMark (p .mark) (getD (p .noted) c 0))) eh (λ e. rw ec e) (ap isFaulty ec ∙ fx) fx in
+    calm-trans moved (calm-issue _ x up _ (omega arith) (moved .faulty-same x ∙ fx)))
+    (λ t. calm-record r x p eh (λ e. rw ec e) (ap isFaulty ec ∙ fx) fx)
 
 pub calm-submit : (kit : Kit) (r : Room) (request : ℕ) → Calm r (onSubmit kit r request .room)
 unfolding onSubmit afterSubmit note remember
@@ -214,10 +232,11 @@ calm-submit kit r request =
     let leader = kit .leader in
     let asked = remember r request in
     pick-elim (λ z. Calm r z) (isRunning (r .replica leader .condition))
-    (λ t. let noted = calm-record asked leader (note (r .replica leader) request) refl (λ e. e) refl in
+    (λ t. let run = running-correct (r .replica leader .condition) t in
+    let noted = calm-record asked leader (note (r .replica leader) request) refl (λ e. e) run run in
     calm-trans (calm-remember r request)
-    (calm-trans noted (calm-issue (withReplica asked leader (note (r .replica leader) request)) leader ag _ refl
-    (noted .faulty-same leader ∙ running-correct (r .replica leader .condition) t))))
+    (calm-trans noted (calm-issue (withReplica asked leader (note (r .replica leader) request)) leader ag _ (omega arith)
+    (noted .faulty-same leader ∙ run))))
     (λ t. calm-remember r request)
 
 pub calm-deliver : (kit : Kit) (r : Room) (sender name value to : ℕ) → Calm r (onDeliver kit r sender name value to .room)
@@ -227,23 +246,23 @@ calm-deliver kit r sender name value to =
     calm-refuse r _ _ _ λ e₅.
     calm-either r (eqb name ag) _ _
     (calm-either r (eqb sender (kit .leader)) _ _
-    (calm-refuse r _ _ _ λ e. calm-trans (calm-issue r to ag _ refl fx) (calm-settle _ to _ _ _ refl refl fx))
+    (calm-refuse r _ _ _ λ e. calm-trans (calm-issue r to ag _ (omega arith) fx) (calm-settle _ to _ _ _ refl refl fx))
     (calm-refuse r _ _ _ λ e. calm-settle r to _ _ _ refl refl fx))
     (calm-either r (eqb name up) _ _
     (calm-either r (leb value (length (r .replica to .noted))) _ _
-    (calm-refuse r _ _ _ λ e. calm-record r to _ refl (λ e. e) refl)
-    (calm-refuse r _ _ _ λ e. calm-record r to _ refl (λ e. e) refl))
+    (calm-refuse r _ _ _ λ e. calm-record r to _ refl (λ e. e) fx fx)
+    (calm-refuse r _ _ _ λ e. calm-record r to _ refl (λ e. e) fx fx))
     (calm-refuse r _ _ _ λ e.
     pick-elim (λ z. Calm r z) (leb (kit .f) (switches kit (accept (r .replica to) sender sw value)))
-    (λ t. calm-record r to _ refl (λ e. refl) (sym fx))
-    (λ t. calm-record r to _ refl (λ e. e) refl)))
+    (λ t. calm-record r to _ refl (λ e. refl) refl fx)
+    (λ t. calm-record r to _ refl (λ e. e) fx fx)))
 
 pub calm-panic : (r : Room) (to : ℕ) → Calm r (onPanic r to .room)
 unfolding onPanic withCondition
 calm-panic r to =
     calm-refuse r _ _ _ λ fx. calm-refuse r _ _ _ λ e.
     calm-record r to _ refl (λ d. no-way (cc (running-open (r .replica to .condition) (not-was-false (isRunning (r .replica to .condition)) e))))
-    (sym fx)
+    refl fx
 
 pub calm-faulty-issue : (r : Room) (x name : ℕ) (c : Content) → Calm r (onIssue r x name c .room)
 unfolding onIssue
@@ -258,18 +277,19 @@ none-of none e = refl
 none-of (some n) e = no-way (cc)
 
 -- a replica that holds nothing takes hold of a history
-keeps-hold : (r : Room) (x h : ℕ) → r .replica x .held ≡ none → Keeps r (withReplica r x (hold (r .replica x) h))
+keeps-hold : (r : Room) (x h : ℕ) → isFaulty (r .replica x .condition) ≡ false → r .replica x .held ≡ none → Keeps r (withReplica r x (hold (r .replica x) h))
 unfolding withReplica hold
-keeps-hold r x h free =
+keeps-hold r x h fx free =
     record {
       held = λ y n e. split (eqb y x) (λ t. let z = eqb-true y x t in no-way (cc (rw z at e))) (λ t. rw t e);
       closed = λ y e. split (eqb y x) (λ t. rw t (rw (eqb-true y x t) at e)) (λ t. rw t e);
       faulty = λ y. split (eqb y x) (λ t. rw (t, eqb-true y x t)) (λ t. rw t);
+      untouched = λ y d. let z : y ≢ x = λ w. no-way (cc (rw w at d)) in replica-other r x (hold (r .replica x) h) y z;
     }
 
 -- records are all that it looks at
 keeps-records : {r a b : Room} → b .replica ≡ a .replica → Keeps r a → Keeps r b
-keeps-records e k = record { held = rw e (k .held); closed = rw e (k .closed); faulty = rw e (k .faulty) }
+keeps-records e k = record { held = rw e (k .held); closed = rw e (k .closed); faulty = rw e (k .faulty); untouched = rw e (k .untouched) }
 
 keeps-refuse : (r : Room) (t : Bool) (a : Answer) (o : Outcome) → (t ≡ false → Keeps r (o .room)) → Keeps r (refuse t a r o .room)
 unfolding refuse
@@ -279,9 +299,9 @@ keeps-refuse r false a o k = k refl
 keeps-hand : (kit : Kit) (r : Room) (p q to : ℕ) → Keeps r (onHand kit r p q to .room)
 unfolding onHand afterHand issue
 keeps-hand kit r p q to =
-    keeps-refuse r _ _ _ λ e₁. keeps-refuse r _ _ _ λ e₂. keeps-refuse r _ _ _ λ late. keeps-refuse r _ _ _ λ e₃. keeps-refuse r _ _ _ λ e₄.
+    keeps-refuse r _ _ _ λ fx. keeps-refuse r _ _ _ λ e₂. keeps-refuse r _ _ _ λ late. keeps-refuse r _ _ _ λ e₃. keeps-refuse r _ _ _ λ e₄.
     keeps-refuse r _ _ _ λ e₅.
-    keeps-records refl (keeps-hold r to _ (none-of (r .replica to .held)
+    keeps-records refl (keeps-hold r to _ fx (none-of (r .replica to .held)
     (or-l (isSome (r .replica to .held)) (isClosed (r .replica to .condition)) late)))
 
 -- a test that passed, and that a held history would have failed
@@ -293,6 +313,7 @@ keeps-build : (kit : Kit) (r : Room) → Keeps r (onBuild kit r .room)
 unfolding onBuild afterBuild issue withReplica withHistory
 keeps-build kit r =
     keeps-refuse r _ _ _ λ e. keeps-records refl (keeps-hold r (switchLeader kit) _
+    (or-l (isFaulty (r .replica (switchLeader kit) .condition)) _ e)
     (free-of _ (r .replica (switchLeader kit) .held) (λ h eh. simp (eh, or-true)) e))
 
 keeps-file : (r : Room) (j k : ℕ) (list : List ℕ) → Keeps r (onFile r j k list .room)

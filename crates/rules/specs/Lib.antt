@@ -12,6 +12,7 @@ pub mod Growth
 pub mod TableLaws
 pub mod ReadingLaws
 pub mod Holding
+pub mod Lengths
 pub mod Filings
 pub mod Rising
 pub mod agreement

@@ -175,7 +175,7 @@ rises-event kit r size Idle list g = one (omega arith) (omega arith) (rises-none
 rises-event kit r size Build list g = rises-build kit r
 rises-event kit r size (File j k) list g = rises-refuse r _ _ _ λ e. one (omega arith) (omega arith) (rises-same refl refl)
 
-rises-tick : (kit : Kit) (r : Room) (gap : ℕ) → Rises 0 0 r (tick kit r gap)
+pub rises-tick : (kit : Kit) (r : Room) (gap : ℕ) → Rises 0 0 r (tick kit r gap)
 unfolding tick withClock
 rises-tick kit r gap =
     let later = withClock r (r .clock + gap) in

@@ -7,10 +7,10 @@ use mathlib.Core.List.{List, [], _∷_, _++_}
 use Prim.Native.Nat.{ℕ, zero, suc, _+_, _≤_, _<_, min}
 use native.Mathlib.Nat.{suc-inj, le-of-suc-le-suc}
 use native.Mathlib.Omega.{arith}
-use lib.ListN.{length, take, getD, length-append}
+use lib.ListN.{length, take, drop, getD, length-append}
 use lib.Dec.{leb, ltb, eqb}
 use borrow.Author.Tests.{ltb-true, ltb-false, leb-true, leb-false, eqb-true, eqb-false, eq-eqb}
-use Rattle.terms.specs.Lists.{pick, allBelow, allOf, holds, distinct, leastOver, nth, _⊑_, Sub, Agree, Once}
+use Rattle.terms.specs.Lists.{pick, allBelow, anyBelow, allOf, holds, distinct, leastOver, nth, _⊑_, Sub, Agree, Once}
 
 -- split a goal on a test: the goal's family, the two cases with their equation
 pub pick-elim {ℓ ℓ′} : {A : Type ℓ} (P : A → Type ℓ′) (t : Bool) {a b : A} → (t ≡ true → P a) → (t ≡ false → P b) → P (pick t a b)
@@ -216,3 +216,19 @@ once-append l m ol om d i j a p q =
 pub distinct-once : (l : List ℕ) → distinct l ≡ true → Once l
 distinct-once [] e = λ i j a p q. no-way (cc)
 distinct-once (x ∷ xs) e = once-cons x xs (not-was-true (holds x xs) (and-l (not (holds x xs)) (distinct xs) e)) (distinct-once xs (and-r (not (holds x xs)) (distinct xs) e))
+
+pub anyBelow-past : (k n : ℕ) (t : ℕ → Bool) → n ≤ k → ((i : ℕ) → n ≤ i → t i ≡ false) → anyBelow k t ≡ anyBelow n t
+anyBelow-past zero n t h e = let z : n ≡ 0 = omega arith in rw z
+anyBelow-past (suc k) n t h e =
+    split (eqb n (suc k)) (λ q. rw (eqb-true n (suc k) q))
+    (λ q. let ne = eqb-false n (suc k) q in
+    let below : n ≤ k = omega arith in
+    rw (e k below) (anyBelow-past k n t below e))
+
+pub sub-length {ℓ} : {A : Type ℓ} (l m : List A) → Sub l m → length l ≤ length m
+sub-length l m f = let h = sub-prefix l m f in rw (← h .1) (omega (arith, length-append l (h .0)))
+
+pub nth-drop {ℓ} : {A : Type ℓ} (k : ℕ) (l : List A) (i : ℕ) → nth (drop k l) i ≡ nth l (k + i)
+nth-drop zero l i = let z : 0 + i ≡ i = omega arith in rw z
+nth-drop (suc k) [] i = refl
+nth-drop (suc k) (x ∷ xs) i = let z : suc k + i ≡ suc (k + i) = omega arith in rw z (nth-drop k xs i)

@@ -3,7 +3,7 @@
 use mathlib.Core.Path.{_≡_, refl, sym, ap, _∙_, fun-ext}
 use mathlib.Core.Bool.{Bool, _&&_}
 use mathlib.Core.Logic.{_≢_}
-use mathlib.Core.List.{List, [], _∷_}
+use mathlib.Core.List.{List, [], _∷_, map}
 use Prim.Native.Nat.{ℕ, zero, suc, _+_, _*_, _/_, _%_, _<_}
 use native.Mathlib.Nat.{le-of-suc-le-suc}
 use native.Mathlib.Omega.{arith}
@@ -93,6 +93,12 @@ module _ {ℓ} {A : Type ℓ} where
 
 -- the same where every row is made of a value by h
 pub set-grid-of {ℓ ℓ′} : {A : Type ℓ} {B : Type ℓ′} (h : A → B) (g : ℕ → ℕ → A) (x m : ℕ) (v : A) → m < 3 → set (grid (λ y n. h (g y n))) (3 * x + m) (h v) ≡ grid (λ y n. h (pick (eqb n m && eqb y x) v (g y n)))
-set-grid-of {A = A} h g x m v hm =
+set-grid-of h g x m v hm =
     set-grid (λ y n. h (g y n)) x m (h v) hm
     ∙ ap grid (fun-ext (λ y. fun-ext (λ n. split (eqb n m && eqb y x) (λ t. rw t) (λ t. rw t))))
+
+-- each value changed by h
+pub map-tab {ℓ ℓ′} : {A : Type ℓ} {B : Type ℓ′} (h : A → B) (n : ℕ) (f : ℕ → A) → map h (tab n f) ≡ tab n (λ i. h (f i))
+unfolding tab
+map-tab h zero f = refl
+map-tab {B = B} h (suc n) f = ap (λ (l : List B). h (f 0) ∷ l) (map-tab h n (λ i. f (suc i)))

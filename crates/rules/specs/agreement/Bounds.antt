@@ -1,52 +1,102 @@
 -- How long everything can get in the play of a good kit: what the places of the code's arrays rest on. Assumes nothing.
-use mathlib.Core.Path.{_≡_, refl, sym, ap, _∙_}
+use mathlib.Core.Path.{_≡_, refl, ap, _∙_}
 use mathlib.Core.Bool.{true, false}
-use mathlib.Core.Logic.{_≢_}
 use mathlib.Core.Option.{some}
 use mathlib.Core.List.{List, [], _∷_}
-use Prim.Native.Nat.{ℕ, zero, suc, _≤_}
+use Prim.Native.Nat.{ℕ, zero, suc, _*_, _≤_}
 use native.Mathlib.Omega.{arith}
 use lib.ListN.{length, take, length-take}
-use lib.Dec.{eqb}
-use borrow.Author.Tests.{eqb-true, ne-eqb}
-use Rattle.terms.specs.Limits.{replicas, eventsMax, requestsMax, filedMax, placesMax, nameMax}
-use Rattle.terms.specs.Lists.{pick, nth, holds, Once}
-use Rattle.terms.specs.ListLaws.{split, no-way, once-head, once-tail, not-holds, nth-take}
-use Rattle.terms.specs.Kit.{Kit, GoodKit, Entry}
+use Rattle.terms.specs.Limits.{replicas, eventsMax, ticksMax, requestsMax, filedMax, placesMax}
+use Rattle.terms.specs.Lists.{nth, Once}
+use Rattle.terms.specs.ListLaws.{split, nth-take}
+use Rattle.terms.specs.Kit.{Kit, GoodKit, GoodEntries, Entry}
 use Rattle.rules.specs.Table.{ag, up, sw, isActive, isMarkedFaulty}
 use Rattle.rules.specs.Room.{Room, freshRoom, freshReplica}
-use Rattle.rules.specs.Play.{after}
+use Rattle.rules.specs.Clock.{tick}
+use Rattle.rules.specs.Play.{play, after}
 use Rattle.rules.specs.Growth.{after-suc}
-use Rattle.rules.specs.Filings.{files-few}
-use Rattle.rules.specs.Rising.{countIn, settled-by-one, play-rises}
+use Rattle.rules.specs.Holding.{after-keeps, tick-keeps}
+use Rattle.rules.specs.Filings.{FilesFew, few-tick, files-few}
+use Rattle.rules.specs.Lengths.{once-length}
+use Rattle.rules.specs.Rising.{countIn, rises-tick, settled-by-one, play-rises}
+use Rattle.rules.specs.laws.Refused.{tick-ticked}
+use Rattle.rules.specs.laws.Time.{gaps, step-clock, clock-is-sum, Timed, timed-tick, timed}
 use Rattle.rules.specs.agreement.Invariant.{Part, Invariant}
+use Rattle.rules.specs.agreement.Events.{next-tick}
 use Rattle.rules.specs.agreement.Moments.{at-moment}
 
--- a list with its first x taken out
-without : ℕ → List ℕ → List ℕ
-without x [] = []
-without x (y ∷ ys) = pick (eqb x y) ys (y ∷ without x ys)
+-- ---- what stands in every room that a good kit reaches
 
-without-length : (x : ℕ) (l : List ℕ) → holds x l ≡ true → length l ≡ suc (length (without x l))
-unfolding without
-without-length x [] e = no-way (cc)
-without-length x (y ∷ ys) e =
-    split (eqb x y) (λ t. rw t) (λ t. let h : holds x ys ≡ true = rw t at e in rw t (ap suc (without-length x ys h)))
+pub record Reached (kit : Kit) (r : Room) : Type 0 where
+  pub invariant : Invariant kit r
+  pub files : FilesFew kit r
+  pub times : Timed r
+  pub clock-few : r .clock ≤ eventsMax * ticksMax
+  -- a faulty replica's record is never touched
+  pub faulty-fresh : (x : ℕ) → isMarkedFaulty kit x ≡ true → r .replica x ≡ freshReplica true
+  -- an accepted value is at most the number of events
+  pub accepted-few : (x y name : ℕ) → r .replica x .accepted y name ≤ eventsMax
 
-without-holds : (x q : ℕ) (l : List ℕ) → q ≢ x → holds q l ≡ true → holds q (without x l) ≡ true
-unfolding without
-without-holds x q [] d e = e
-without-holds x q (y ∷ ys) d e =
-    split (eqb x y) (λ t. let z = eqb-true x y t in let n : q ≢ y = λ w. d (w ∙ sym z) in rw t (rw (ne-eqb q y n) at e))
-    (λ t. rw t (split (eqb q y) (λ u. rw u) (λ u. let h : holds q ys ≡ true = rw u at e in rw u (without-holds x q ys d h))))
+gaps-few : (size : ℕ) (es : List Entry) → GoodEntries size es → gaps es ≤ length es * ticksMax
+gaps-few size [] g = omega arith
+gaps-few size (e ∷ es) g = omega (arith, g 0 e refl .gap, gaps-few size es (λ i d h. g (suc i) d h))
 
--- a list without repeats within another is no longer than it
-pub once-length : (l m : List ℕ) → Once l → ((i q : ℕ) → nth l i ≡ some q → holds q m ≡ true) → length l ≤ length m
-once-length [] m o f = omega arith
-once-length (x ∷ xs) m o f =
-    let h = once-length xs (without x m) (once-tail x xs o)
-    (λ i q e. without-holds x q m (λ z. not-holds xs x (once-head x xs o) i (rw (← z) e)) (f (suc i) q e)) in
-    omega (arith, without-length x m (f 0 x refl))
+module _ (kit : Kit) (good : GoodKit kit) where
+  first-good : (n : ℕ) → GoodEntries (replicas (kit .f)) (take n (kit .events))
+  first-good n i e h = good .events-good i e (nth-take n (kit .events) i h .1)
+
+  clock-below : (n : ℕ) → after kit n .clock ≤ eventsMax * ticksMax
+  clock-below n =
+      omega (
+        arith,
+        clock-is-sum kit n,
+        gaps-few (replicas (kit .f)) (take n (kit .events)) (first-good n),
+        length-take n (kit .events),
+        good .event-count,
+      )
+
+  fresh-stays : (n x : ℕ) → isMarkedFaulty kit x ≡ true → after kit n .replica x ≡ freshReplica true
+  unfolding after play freshRoom freshReplica
+  fresh-stays n x m = after-keeps kit 0 n (omega arith) .untouched x (rw m) ∙ rw m
+
+  accepted-below : (n x y name : ℕ) → after kit n .replica x .accepted y name ≤ eventsMax
+  unfolding after freshRoom freshReplica
+  accepted-below n x y name =
+      let h = play-rises kit (freshRoom kit) (replicas (kit .f)) (take n (kit .events)) (first-good n) in
+      omega (arith, h .accepted x y name, length-take n (kit .events), good .event-count)
+
+  pub reached-after : (n : ℕ) → Reached kit (after kit n)
+  reached-after n =
+      record {
+        invariant = at-moment kit good n;
+        files = files-few kit n;
+        times = timed kit n;
+        clock-few = clock-below n;
+        faulty-fresh = fresh-stays n;
+        accepted-few = accepted-below n;
+      }
+
+  -- the room in which event n is judged: its gap has been added
+  pub reached-ticked : (n : ℕ) (e : Entry) → nth (kit .events) n ≡ some e → Reached kit (tick kit (after kit n) (e .gap))
+  reached-ticked n e h =
+      let r = after kit n in
+      let inv = at-moment kit good n in
+      record {
+        invariant = next-tick kit r inv (e .gap) .invariant;
+        files = few-tick kit r (files-few kit n) (e .gap);
+        times = timed-tick kit r (e .gap) (timed kit n);
+        clock-few = omega (
+          arith,
+          tick-ticked kit r (e .gap) .clock,
+          ap (λ (z : Room). z .clock) (after-suc kit n e h),
+          step-clock kit r e,
+          clock-below (suc n),
+        );
+        faulty-fresh = λ x m. tick-keeps kit r (e .gap) .untouched x (inv .faulty-marked x ∙ m) ∙ fresh-stays n x m;
+        accepted-few = λ x y name. omega (arith, rises-tick kit r (e .gap) .accepted x y name, accepted-below n x y name);
+      }
+
+-- ---- the bounds
 
 -- of a correct replica
 pub record ReplicaBounds (kit : Kit) (r : Room) (x : ℕ) : Type 0 where
@@ -58,8 +108,9 @@ pub record ReplicaBounds (kit : Kit) (r : Room) (x : ℕ) : Type 0 where
 
 pub record Bounds (kit : Kit) (r : Room) : Type 0 where
   pub correct : (x : ℕ) → isMarkedFaulty kit x ≡ false → ReplicaBounds kit r x
+  pub own-few : (x name : ℕ) → isMarkedFaulty kit x ≡ false → length (r .counter x name) ≤ suc requestsMax
   -- no counter of any replica meets its last place but by event 2, which is refused there
-  pub places : (x name : ℕ) → name ≤ nameMax → length (r .counter x name) ≤ placesMax
+  pub places : (x name : ℕ) → length (r .counter x name) ≤ placesMax
   -- nor does an accepted value pass the number of events
   pub accepted-few : (x y name : ℕ) → r .replica x .accepted y name ≤ eventsMax
   pub submitted-few : length (r .submitted) ≤ requestsMax
@@ -68,63 +119,55 @@ pub record Bounds (kit : Kit) (r : Room) : Type 0 where
   pub filed-few : r .filed ≤ filedMax
   pub histories-few : length (r .histories) ≤ suc filedMax
 
-module _ (kit : Kit) (good : GoodKit kit) where
-  correct-bounds : (n x : ℕ) → isMarkedFaulty kit x ≡ false → ReplicaBounds kit (after kit n) x
-  correct-bounds n x fx =
+module _ {kit : Kit} {r : Room} (a : Reached kit r) where
+  correct-bounds : (x : ℕ) → isMarkedFaulty kit x ≡ false → ReplicaBounds kit r x
+  correct-bounds x fx =
       record {
         noted-few = noted;
         ag-few = omega (arith, noted, part .ag-few);
         up-few = omega (arith, noted, part .up-few);
-        sw-few = files-few kit n .switched x (inv .faulty-marked x ∙ fx) .once;
-        paired = λ a. part .passive a .paired;
+        sw-few = a .files .switched x (a .invariant .faulty-marked x ∙ fx) .once;
+        paired = λ p. part .passive p .paired;
       }
     where
-      r : Room
-      r = after kit n
-
-      inv : Invariant kit r
-      inv = at-moment kit good n
-
       part : Part kit r x (r .replica x) (r .counter x ag) (r .counter x up)
-      part = inv .part x fx
+      part = a .invariant .part x fx
 
       noted : length (r .replica x .noted) ≤ requestsMax
-      noted = omega (arith, once-length (r .replica x .noted) (r .submitted) (part .common .once) (part .common .submitted), inv .submissions .few)
+      noted =
+          omega (
+            arith,
+            once-length (r .replica x .noted) (r .submitted) (part .common .once) (part .common .submitted),
+            a .invariant .submissions .few,
+          )
 
-  counter-places : (n x name : ℕ) → name ≤ nameMax → length (after kit n .counter x name) ≤ placesMax
-  counter-places n x name small =
-      split (isMarkedFaulty kit x) (λ t. files-few kit n .faulty-few x name (at-moment kit good n .faulty-marked x ∙ t))
-      (λ t. let b = correct-bounds n x t in named name small (b .ag-few) (b .up-few) (b .sw-few))
-    where
-      named : (name : ℕ) → name ≤ nameMax → length (after kit n .counter x ag) ≤ suc requestsMax
-          → length (after kit n .counter x up) ≤ suc requestsMax
-          → length (after kit n .counter x sw) ≤ 1 → length (after kit n .counter x name) ≤ placesMax
-      named zero s a u w = omega arith
-      named (suc zero) s a u w = omega arith
-      named (suc (suc zero)) s a u w = omega arith
-      named (suc (suc (suc m))) s a u w = absurd (omega arith)
+  own-places : (x name : ℕ) → isMarkedFaulty kit x ≡ false → length (r .counter x name) ≤ suc requestsMax
+  own-places x zero fx = correct-bounds x fx .ag-few
+  own-places x (suc zero) fx = correct-bounds x fx .up-few
+  own-places x (suc (suc zero)) fx = omega (arith, correct-bounds x fx .sw-few)
+  own-places x (suc (suc (suc m))) fx = rw (a .files .unnamed x (suc (suc (suc m))) (a .invariant .faulty-marked x ∙ fx) (omega arith)) (omega arith)
 
-  accepted-below : (n x y name : ℕ) → after kit n .replica x .accepted y name ≤ eventsMax
-  unfolding after freshRoom freshReplica
-  accepted-below n x y name =
-      let es = take n (kit .events) in
-      let h = play-rises kit (freshRoom kit) (replicas (kit .f)) es (λ i e h. good .events-good i e (nth-take n (kit .events) i h .1)) in
-      omega (arith, h .accepted x y name, length-take n (kit .events), good .event-count)
+  counter-places : (x name : ℕ) → length (r .counter x name) ≤ placesMax
+  counter-places x name =
+      split (isMarkedFaulty kit x) (λ t. a .files .faulty-few x name (a .invariant .faulty-marked x ∙ t)) (λ t. omega (arith, own-places x name t))
 
-  pub bounds : (n : ℕ) → Bounds kit (after kit n)
-  bounds n =
-      let inv = at-moment kit good n in
-      let files = files-few kit n in
+  pub bounds-of : Bounds kit r
+  bounds-of =
       record {
-        correct = correct-bounds n;
-        places = counter-places n;
-        accepted-few = accepted-below n;
-        submitted-few = inv .submissions .few;
-        submitted-once = inv .submissions .once;
-        timed = inv .submissions .timed;
-        filed-few = files .filed-few;
-        histories-few = omega (arith, files .histories-few, files .filed-few);
+        correct = correct-bounds;
+        own-few = own-places;
+        places = counter-places;
+        accepted-few = a .accepted-few;
+        submitted-few = a .invariant .submissions .few;
+        submitted-once = a .invariant .submissions .once;
+        timed = a .times .paired;
+        filed-few = a .files .filed-few;
+        histories-few = omega (arith, a .files .histories-few, a .files .filed-few);
       }
+
+module _ (kit : Kit) (good : GoodKit kit) where
+  pub bounds : (n : ℕ) → Bounds kit (after kit n)
+  bounds n = bounds-of (reached-after kit good n)
 
   -- an event settles at most one request more, but for a closing
   pub settles-one : (n : ℕ) (e : Entry) → nth (kit .events) n ≡ some e → (x : ℕ)

@@ -28,9 +28,9 @@ use Rattle.rules.specs.agreement.Invariant.{Backed, Common, Active, Pass
 -- ---- a request is noted
 
 pub common-note : (kit : Kit) {r r₁ : Room} → Grows r r₁ → {p p₁ : Replica} (q : ℕ) → p₁ .noted ≡ p .noted ++ (q ∷ []) → p₁ .condition ≡ p .condition
-    → p₁ .held ≡ p .held
+    → p₁ .held ≡ p .held → length (p₁ .pairMarks) ≤ suc (length (p .pairMarks))
     → holds q (r₁ .submitted) ≡ true → holds q (p .noted) ≡ false → Common kit r p → Common kit r₁ p₁
-common-note kit {r} {r₁} g {p} {p₁} q en ec eh ms mn c =
+common-note kit {r} {r₁} g {p} {p₁} q en ec eh lp ms mn c =
     record {
       once = rw en (once-snoc (p .noted) q (c .once) mn);
       submitted = λ i a e.
@@ -39,6 +39,7 @@ common-note kit {r} {r₁} g {p} {p₁} q en ec eh ms mn c =
       held-backed = λ h e. backed-grows kit g (c .held-backed h (cc));
       running-holds-none = λ e. eh ∙ c .running-holds-none (rw ec at e);
       closed-holds = λ e. let h = c .closed-holds (rw ec at e) in (h .0, eh ∙ h .1);
+      pairs-few = rw en (omega (arith, length-snoc (p .noted) q, c .pairs-few));
     }
 
 -- PREPARE of q as the leader's next value
@@ -219,15 +220,16 @@ active-few kit x p ags ups ax free a =
 
 -- ---- the part that all have
 
-pub common-same : (kit : Kit) {r : Room} {p p₁ : Replica} → p₁ .noted ≡ p .noted → p₁ .condition ≡ p .condition → p₁ .held ≡ p .held → Common kit r p
-    → Common kit r p₁
-common-same kit {r} {p} {p₁} en ec eh c =
+pub common-same : (kit : Kit) {r : Room} {p p₁ : Replica} → p₁ .noted ≡ p .noted → p₁ .condition ≡ p .condition → p₁ .held ≡ p .held
+    → p₁ .pairMarks ≡ p .pairMarks → Common kit r p → Common kit r p₁
+common-same kit {r} {p} {p₁} en ec eh ep c =
     record {
       once = rw en (c .once);
       submitted = λ i q e. c .submitted i q (rw en at e);
       held-backed = λ h e. c .held-backed h (cc);
       running-holds-none = λ e. eh ∙ c .running-holds-none (rw ec at e);
       closed-holds = λ e. let h = c .closed-holds (rw ec at e) in (h .0, eh ∙ h .1);
+      pairs-few = rw (en, ep) (c .pairs-few);
     }
 
 pub common-halt : (kit : Kit) {r : Room} (p : Replica) → Common kit r p → Common kit r (withCondition p Halted)
@@ -239,6 +241,7 @@ common-halt kit p c =
       held-backed = c .held-backed;
       running-holds-none = λ e. no-way (cc);
       closed-holds = λ e. no-way (cc);
+      pairs-few = c .pairs-few;
     }
 
 pub common-close : (kit : Kit) {r : Room} (p : Replica) (h : ℕ) → p .held ≡ some h → Common kit r p → Common kit r (withCondition p Closed)
@@ -250,6 +253,7 @@ common-close kit p h eh c =
       held-backed = c .held-backed;
       running-holds-none = λ e. no-way (cc);
       closed-holds = λ e. (h, eh);
+      pairs-few = c .pairs-few;
     }
 
 pub common-hold : (kit : Kit) {r : Room} (p : Replica) (h : ℕ) → isRunning (p .condition) ≡ false → Backed kit r h → Common kit r p
@@ -262,6 +266,7 @@ common-hold kit p h er w c =
       held-backed = λ g e. let z : h ≡ g = cc in rw z at w;
       running-holds-none = λ e. no-way (cc);
       closed-holds = λ e. (h, refl);
+      pairs-few = c .pairs-few;
     }
 
 -- ---- a passive replica

@@ -58,7 +58,7 @@ next-settle kit {r} {r₁} x p {ags} {ups} c d a v ax free u₀ u₁ ed lo hi cm
     (λ f. let act₂ = active-rise kit x p ags ups c d m ax free ed (omega (arith, ltb-true c d t)) act₁ in
     let few = active-few kit x (withMark p m) ags (ups ++ (Update q m ∷ [])) ax free act₂ in
     record {
-      common = common-grows kit g (common-same kit refl refl refl cm);
+      common = common-grows kit g (common-same kit refl refl refl refl cm);
       active = λ e. active-grows kit g act₂;
       passive = λ e. no-way (cc);
       ag-few = few .0;
@@ -107,7 +107,7 @@ next-prepare kit roles r a v x q fx ax xl run ev ec es en =
     (ap (settledCount kit x p₁) (sym (length-snoc (r .counter x ag) (Commit q v))))
     (settledCount-rises kit x p p₁ n (suc n) (omega arith) (λ y m. accepted-rises (p .accepted) (kit .leader) ag v y m ev))
     (settledCount-by-one kit x p p₁ n (suc n) (omega arith) (λ y m. accepted-by-one (p .accepted) (kit .leader) ag v y m ev))
-    (common-note kit g q refl refl refl (still-submitted g q es) en (loc .common))
+    (common-note kit g q refl refl refl (omega arith) (still-submitted g q es) en (loc .common))
     (active-prepare kit roles g x p (r .counter x ag) (r .counter x up) (settledCount kit x p n) q v xl free
     (ev ∙ ap suc (av .leader-accepted xl free)) (rw (av .leader-accepted xl free) at ec) sub av)
     sub
@@ -147,7 +147,7 @@ next-commit kit r a s v x b fx ax sl run ev ec lv =
     next-settle kit x p₁ (settledCount kit x p n) (settledCount kit x p₁ n) a (moved-none r x) ax free run run
     refl ups
     (settledCount-by-one kit x p p₁ n n (omega arith) (λ y m. accepted-by-one (p .accepted) s ag v y m ev))
-    (common-same kit refl refl refl (loc .common))
+    (common-same kit refl refl refl refl (loc .common))
     (active-commit kit x p (r .counter x ag) (r .counter x up) (settledCount kit x p n) s b v sl ev lv ec sub (loc .active ax))
     sub
   where
@@ -231,7 +231,7 @@ next-noting kit r a x p₁ ax u₀ u₁ more cm pas sub =
     let g₁ = running-correct (p₁ .condition) u₁ in
     next-move kit x a v (g₁ ∙ sym g₀)
     (λ f. record {
-      common = common-grows kit g (common-same kit refl refl refl (cm f));
+      common = common-grows kit g (common-same kit refl refl refl refl (cm f));
       active = λ e. no-way (cc);
       passive = λ e. passive-grows kit g (passive-same kit refl refl (λ y. refl) (pas f));
       ag-few = omega (arith, a .part x f .ag-few, more);
@@ -264,7 +264,7 @@ next-up kit r a s v x o eo fx ax run ev =
     let w = pair-expected p v o (not-was-false (expectsPair p v o) u) in
     let l = leb-true v (length (p .noted)) t in
     let i : v - 1 ≡ p .accepted s up = omega arith in
-    next-noting kit r a x (accept p s up v) ax run run (omega arith) (λ f. common-same kit refl refl refl (loc .common))
+    next-noting kit r a x (accept p s up v) ax run run (omega arith) (λ f. common-same kit refl refl refl refl (loc .common))
     (λ f. passive-accept kit p (accept p s up v) s v (getD (p .noted) (p .accepted s up) 0) _ (λ j q e. e) (loc .passive ax .paired) refl ev
     (nth-getD (p .noted) (p .accepted s up) 0 (omega arith)) (rw i at (ec ∙ w)) (loc .passive ax))
     (settledNoted-rises kit x p (accept p s up v) n n (λ j q e. e)
@@ -275,7 +275,7 @@ next-up kit r a s v x o eo fx ax run ev =
     let p₁ = accept (notePair p q (secondOf o)) s up v in
     let i : p .accepted s up ≡ length (p .noted) = omega (arith, leb-false v (length (p .noted)) t, passive-within kit p s (loc .passive ax)) in
     next-noting kit r a x p₁ ax run run (omega (arith, length-snoc (p .noted) q))
-    (λ f. common-note kit (grows-refl r) q refl refl refl (w .1) (w .2) (loc .common))
+    (λ f. common-note kit (grows-refl r) q refl refl refl (omega (arith, length-snoc (p .pairMarks) (secondOf o))) (w .1) (w .2) (loc .common))
     (λ f. passive-accept kit p p₁ s v q (secondOf o) (λ j b e. nth-append (p .noted) (q ∷ []) j e)
     (length-snoc (p .pairMarks) (secondOf o) ∙ ap suc (loc .passive ax .paired) ∙ sym (length-snoc (p .noted) q)) refl ev
     (rw i (nth-snoc (p .noted) q)) (ec ∙ w .0) (loc .passive ax))
@@ -307,7 +307,7 @@ next-sw kit roles r a s v x o fx op hs =
     let g = grows-withReplica r x p₂ in
     next-move kit x a v₁ (sym ok)
     (λ f. record {
-      common = common-grows kit g (common-same kit refl refl refl (common-close kit p₁ (held .0) (held .1) c₁));
+      common = common-grows kit g (common-same kit refl refl refl refl (common-close kit p₁ (held .0) (held .1) c₁));
       active = λ e. active-grows kit g (active-same kit x p p₂ _ _ refl refl (λ y. refl) refl (loc .active e));
       passive = λ e. passive-grows kit g (passive-same kit refl refl (λ y. refl) (loc .passive e));
       ag-few = loc .ag-few;
@@ -340,7 +340,7 @@ next-sw kit roles r a s v x o fx op hs =
     loc = a .part x fx
 
     c₁ : Common kit r p₁
-    c₁ = common-same kit refl refl refl (loc .common)
+    c₁ = common-same kit refl refl refl refl (loc .common)
 
     some-of : (h : Option ℕ) → isSome h ≡ true → (n : ℕ) × (h ≡ some n)
     some-of none e = no-way (cc)

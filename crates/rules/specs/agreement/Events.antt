@@ -23,7 +23,7 @@ use Rattle.rules.specs.Room.{Room, Replica, withReplica, withClock, issu
 use Rattle.rules.specs.Reading.{isRunning, isClosed, isFaulty, settledCount, settledNoted, settled, heldList}
 use Rattle.rules.specs.ReadingLaws.{running-open, running-correct, settledNoted-rises}
 use Rattle.rules.specs.Growth.{grows-withReplica, grows-withClock, grows-panicAll}
-use Rattle.rules.specs.agreement.Invariant.{Part, Invariant, part-grows}
+use Rattle.rules.specs.agreement.Invariant.{FilingBounds, Part, Invariant, part-grows}
 use Rattle.rules.specs.agreement.Changes.{common-note, common-halt, active-submit, active-same, settledCount-submit, passive-same}
 use Rattle.rules.specs.agreement.Frame.{moved-none, moved-record, moved-ag, moved-submission, moved-file, moved-any, Next, next-none}
 use Rattle.rules.specs.agreement.Frame.{next-trans, next-move, next-still, grows-open}
@@ -95,7 +95,7 @@ next-submit kit roles r a q =
         (λ i b e. nth-append (p .noted) (q ∷ []) i e) (omega arith) in
         next-move kit l a v refl
         (λ f. record {
-          common = common-note kit (v .grows) q refl refl refl
+          common = common-note kit (v .grows) q refl refl refl (omega arith)
               (holds-at (r .submitted ++ (q ∷ [])) (length (r .submitted)) q (nth-snoc (r .submitted) q)) (new loc fresh) (loc .common);
           active = λ e. rw z (active-submit kit (v .grows) p (r .counter l ag) (r .counter l up) (settledCount kit l p n) q free (v .ag-now) sub av);
           passive = λ e. no-way (cc (roles .leader-active));
@@ -123,7 +123,8 @@ next-panic kit r a x =
     (λ f. grows-open kit x v fx (halt-correct p) (running-open (p .condition) (not-was-false (isRunning (p .condition)) e)) (halt-open p)
     (rw (halt-settled kit x p (length (r .counter x ag))) λ i q z. z))
 
-next-file : (kit : Kit) (r : Room) → Invariant kit r → (j n : ℕ) (l : List ℕ) → n ≤ length l → Next kit r (onFile r j n l .room)
+next-file : (kit : Kit) (r : Room) → Invariant kit r → (j n : ℕ) (l : List ℕ)
+    → FilingBounds (record { j = j; k = n; list = l }) → Next kit r (onFile r j n l .room)
 unfolding onFile
 next-file kit r a j n l h =
     next-refuse kit r a _ _ _ λ e.
@@ -141,7 +142,7 @@ next-clock kit r a n =
       up-now = refl;
       records-stand = λ y d. refl;
       counters-stand = λ y m d. refl;
-      histories-long = λ w. w;
+      histories-fit = λ w. w;
       submissions = λ w. w;
     })
 
@@ -169,7 +170,7 @@ next-halt kit r a t =
             pick-elim (λ p. Part kit (panicAll r t) x p (r .counter x ag) (r .counter x up)) (isRunning (r .replica x .condition))
             (λ e. part-grows kit (grows-panicAll r t) (halt-part kit x (r .replica x) (a .part x fx)))
             (λ e. part-grows kit (grows-panicAll r t) (a .part x fx));
-        histories-long = a .histories-long;
+        histories-fit = a .histories-fit;
         submissions = a .submissions;
         faulty-marked = λ x. pick-elim (λ (p : Replica). isFaulty (p .condition) ≡ isMarkedFaulty kit x) (isRunning (r .replica x .condition))
             (λ e. halt-correct (r .replica x) ∙ sym (running-correct (r .replica x .condition) e) ∙ a .faulty-marked x) (λ e. a .faulty-marked x);
@@ -178,7 +179,7 @@ next-halt kit r a t =
           (λ e. rw (standing-list kit r t x e) λ i q z. z);
     }
 
-next-tick : (kit : Kit) (r : Room) → Invariant kit r → (gap : ℕ) → Next kit r (tick kit r gap)
+pub next-tick : (kit : Kit) (r : Room) → Invariant kit r → (gap : ℕ) → Next kit r (tick kit r gap)
 unfolding tick
 next-tick kit r a gap =
     let n = next-clock kit r a (r .clock + gap) in
@@ -198,7 +199,7 @@ next-event kit roles r a size (Hand p q x) list g = next-hand kit r a p q x
 next-event kit roles r a size (Panic x) list g = next-panic kit r a x
 next-event kit roles r a size Idle list g = next-none kit r a
 next-event kit roles r a size Build list g = next-build kit roles r a
-next-event kit roles r a size (File j k) list g = next-file kit r a j k list (g .1)
+next-event kit roles r a size (File j k) list g = next-file kit r a j k list (record { j-k = g .0; k-list = g .1; list-max = g .2 })
 
 pub next-step : (kit : Kit) → Roles kit → (r : Room) → Invariant kit r → (size : ℕ) (e : Entry) → GoodEntry size e → Next kit r (step kit r e .room)
 unfolding step

@@ -18,12 +18,12 @@ use Rattle.rules.specs.RoomLaws.{replica-same, replica-other, counter-sa
 use Rattle.rules.specs.Reading.{isClosed, isFaulty, settledNoted, settled, heldList}
 use Rattle.rules.specs.ReadingLaws.{closed-correct}
 use Rattle.rules.specs.Growth.{Grows, grows-refl, grows-trans, grows-withReplica, grows-issue, grows-withHistory, grows-remember}
-use Rattle.rules.specs.agreement.Invariant.{Submissions, Backed, Common, Part, Invariant, part-grows}
+use Rattle.rules.specs.agreement.Invariant.{FilingBounds, Submissions, Backed, Common, Part, Invariant, part-grows}
 use Rattle.rules.specs.agreement.OneRoom.{openList, settled-closed, settled-open}
 
--- every filed history is at least k long
-abbrev pub Long : Room → Type 0
-Long r = (i : ℕ) (h : Filing) → nth (r .histories) i ≡ some h → h .k ≤ length (h .list)
+-- every filed history is within its bounds
+abbrev pub Fit : Room → Type 0
+Fit r = (i : ℕ) (h : Filing) → nth (r .histories) i ≡ some h → FilingBounds h
 
 -- from r to r₁ replica x alone may change; there it has record p and has issued `ags` on ag and `ups` on up
 pub record Moved (r r₁ : Room) (x : ℕ) (p : Replica) (ags ups : List Content) : Type 0 where
@@ -33,7 +33,7 @@ pub record Moved (r r₁ : Room) (x : ℕ) (p : Replica) (ags ups : List Content
   pub up-now : r₁ .counter x up ≡ ups
   pub records-stand : (y : ℕ) → y ≢ x → r₁ .replica y ≡ r .replica y
   pub counters-stand : (y n : ℕ) → y ≢ x → r₁ .counter y n ≡ r .counter y n
-  pub histories-long : Long r → Long r₁
+  pub histories-fit : Fit r → Fit r₁
   pub submissions : Submissions (r .submitted) (r .ticks) → Submissions (r₁ .submitted) (r₁ .ticks)
 
 pub moved-none : (r : Room) (x : ℕ) → Moved r r x (r .replica x) (r .counter x ag) (r .counter x up)
@@ -44,7 +44,7 @@ moved-none r x = record {
   up-now = refl;
   records-stand = λ y d. refl;
   counters-stand = λ y m d. refl;
-  histories-long = λ w. w;
+  histories-fit = λ w. w;
   submissions = λ w. w;
 }
 
@@ -59,7 +59,7 @@ module _ {r r₁ : Room} {x : ℕ} {p : Replica} {ags ups : List Content} (v : M
         up-now = v .up-now;
         records-stand = λ y d. replica-other r₁ x q y d ∙ v .records-stand y d;
         counters-stand = v .counters-stand;
-        histories-long = v .histories-long;
+        histories-fit = v .histories-fit;
         submissions = v .submissions;
       }
 
@@ -73,7 +73,7 @@ module _ {r r₁ : Room} {x : ℕ} {p : Replica} {ags ups : List Content} (v : M
         up-now = v .up-now;
         records-stand = v .records-stand;
         counters-stand = λ y m d. counter-other r₁ x ag c y m d ∙ v .counters-stand y m d;
-        histories-long = v .histories-long;
+        histories-fit = v .histories-fit;
         submissions = v .submissions;
       }
 
@@ -87,7 +87,7 @@ module _ {r r₁ : Room} {x : ℕ} {p : Replica} {ags ups : List Content} (v : M
         up-now = counter-same r₁ x up c ∙ ap (λ l. l ++ (c ∷ [])) (v .up-now);
         records-stand = v .records-stand;
         counters-stand = λ y m d. counter-other r₁ x up c y m d ∙ v .counters-stand y m d;
-        histories-long = v .histories-long;
+        histories-fit = v .histories-fit;
         submissions = v .submissions;
       }
 
@@ -101,7 +101,7 @@ module _ {r r₁ : Room} {x : ℕ} {p : Replica} {ags ups : List Content} (v : M
         up-now = v .up-now;
         records-stand = v .records-stand;
         counters-stand = λ y m d. counter-other r₁ x sw c y m d ∙ v .counters-stand y m d;
-        histories-long = v .histories-long;
+        histories-fit = v .histories-fit;
         submissions = v .submissions;
       }
 
@@ -115,7 +115,7 @@ module _ {r r₁ : Room} {x : ℕ} {p : Replica} {ags ups : List Content} (v : M
         up-now = v .up-now;
         records-stand = v .records-stand;
         counters-stand = v .counters-stand;
-        histories-long = v .histories-long;
+        histories-fit = v .histories-fit;
         submissions = λ w. record {
           once = once-snoc (r₁ .submitted) q (v .submissions w .once) e;
           timed = length-snoc (r₁ .ticks) (r₁ .clock) ∙ ap suc (v .submissions w .timed) ∙ sym (length-snoc (r₁ .submitted) q);
@@ -123,7 +123,7 @@ module _ {r r₁ : Room} {x : ℕ} {p : Replica} {ags ups : List Content} (v : M
         };
       }
 
-  pub moved-file : (h : Filing) (n : ℕ) → h .k ≤ length (h .list) → Moved r (withHistory r₁ h n) x p ags ups
+  pub moved-file : (h : Filing) (n : ℕ) → FilingBounds h → Moved r (withHistory r₁ h n) x p ags ups
   unfolding withHistory
   moved-file h n l =
       record {
@@ -133,7 +133,7 @@ module _ {r r₁ : Room} {x : ℕ} {p : Replica} {ags ups : List Content} (v : M
         up-now = v .up-now;
         records-stand = v .records-stand;
         counters-stand = v .counters-stand;
-        histories-long = λ w i g e. ⊎-elim (λ t. v .histories-long w i g t) (λ t. rw (← (t .1)) l) (nth-snoc-inv (r₁ .histories) h i e);
+        histories-fit = λ w i g e. ⊎-elim (λ t. v .histories-fit w i g t) (λ t. rw (← (t .1)) l) (nth-snoc-inv (r₁ .histories) h i e);
         submissions = v .submissions;
       }
 
@@ -170,7 +170,7 @@ next-move kit {r} {r₁} x {p} {ags} {ups} a v b l s =
             ⊎-elim (λ d. rw d (rw (v .record-now, v .ag-now, v .up-now) (l (rw d at fy))))
             (λ d. rw (v .records-stand y d, v .counters-stand y ag d, v .counters-stand y up d) (part-grows kit (v .grows) (a .part y fy)))
             (same? y x);
-        histories-long = v .histories-long (a .histories-long);
+        histories-fit = v .histories-fit (a .histories-fit);
         submissions = v .submissions (a .submissions);
         faulty-marked = λ y.
             ⊎-elim (λ d. rw d (rw (v .record-now, b) (a .faulty-marked x))) (λ d. rw (v .records-stand y d) (a .faulty-marked y)) (same? y x);
@@ -219,6 +219,6 @@ moved-any r x m c =
       up-now = refl;
       records-stand = λ y d. refl;
       counters-stand = λ y n d. counter-other r x m c y n d;
-      histories-long = λ w. w;
+      histories-fit = λ w. w;
       submissions = λ w. w;
     }

@@ -22,11 +22,12 @@ use Rattle.rules.specs.Room.{Room, Replica, Filing, withReplica, issue, 
 use Rattle.rules.specs.Reading.{isRunning, isClosed, isFaulty, contentAt, isContent, firstOf, settledCount, settledNoted}
 use Rattle.rules.specs.ReadingLaws.{isContent-same, settledCount-rises, settledCount-own, settledNoted-rises}
 use Rattle.rules.specs.Growth.{Grows, still-submitted}
-use Rattle.rules.specs.agreement.Invariant.{Backed, Active, Part, Invariant, common-grows, active-grows, passive-grows}
+use Rattle.rules.specs.agreement.Invariant.{FilingBounds, Backed, Active, Part, Invariant, common-grows, active-grows, passive-grows}
 use Rattle.rules.specs.agreement.Changes.{common-hold, active-hold, active-build, passive-same}
 use Rattle.rules.specs.agreement.Frame.{Moved, moved-none, moved-record, moved-ag, moved-up, moved-sw, moved-file, Next, next-move, grows-open}
 use Rattle.rules.specs.Switching.{isCommitted, isValid, isValidFiling, afterHand, onHand, missing, built, afterBuild, onBuild}
 use Rattle.rules.specs.Holding.{none-of}
+use Rattle.rules.specs.Lengths.{noted-missing}
 use Rattle.rules.specs.agreement.Delivery.{next-refuse}
 
 -- ---- hand
@@ -65,7 +66,7 @@ valid-backed kit r p q h e long filed v =
 pub validFiling-backed : (kit : Kit) (r : Room) → Invariant kit r → (p q h : ℕ) (o : Option Filing) → nth (r .histories) h ≡ o
     → isValidFiling kit r p q h o ≡ true → Backed kit r h
 validFiling-backed kit r a p q h none e v = no-way (cc)
-validFiling-backed kit r a p q h (some w) e v = valid-backed kit r p q h w (a .histories-long h w e) e v
+validFiling-backed kit r a p q h (some w) e v = valid-backed kit r p q h w (a .histories-fit h w e .k-list) e v
 
 pub next-hand : (kit : Kit) (r : Room) → Invariant kit r → (p q x : ℕ) → Next kit r (onHand kit r p q x .room)
 unfolding onHand afterHand hold settledNoted settledCount
@@ -190,10 +191,21 @@ next-afterBuild kit roles r a fs run free =
     av : Active kit r s p (r .counter s ag) (r .counter s up) (settledCount kit s p (length (r .counter s ag)))
     av = loc .active (roles .switch-active)
 
+    fits : FilingBounds (built kit r)
+    fits = record {
+      j-k = settledCount-own kit s p (length (r .counter s ag)) (roles .switch-active);
+      k-list = omega (arith, length-append (p .noted) (missing (p .noted) (r .submitted)), av .ag-total free);
+      list-max = omega (
+        arith,
+        length-append (p .noted) (missing (p .noted) (r .submitted)),
+        noted-missing (p .noted) (r .submitted) (loc .common .once) (loc .common .submitted),
+        a .submissions .few,
+      );
+    }
+
     v : Moved r (afterBuild kit r) s (hold p h) (r .counter s ag ++ (History h ∷ [])) (r .counter s up ++ (History h ∷ []))
-    v = moved-sw (moved-up (moved-ag (moved-record (moved-file (moved-none r s) (built kit r) (r .filed)
-        (omega (arith, length-append (p .noted) (missing (p .noted) (r .submitted)), av .ag-total free))) (hold p h)) (History h)) (History h))
-        (Switch h)
+    v = moved-sw (moved-up (moved-ag (moved-record (moved-file (moved-none r s) (built kit r) (r .filed) fits) (hold p h)) (History h))
+        (History h)) (Switch h)
 
     wk : Backed kit (afterBuild kit r) h
     wk = built-backed kit roles r (afterBuild kit r) a (v .grows) fs free (nth-snoc (r .histories) (built kit r)) (v .ag-now)

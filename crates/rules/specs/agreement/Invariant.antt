@@ -17,6 +17,13 @@ use Rattle.rules.specs.Room.{Room, Replica, Filing}
 use Rattle.rules.specs.Reading.{isRunning, isClosed, isFaulty, settledCount, settledNoted}
 use Rattle.rules.specs.Growth.{Grows, still-submitted}
 
+-- how long a filed history is: the reader sees to it for event 8; event 7 files the switch leader's own ag total as k, which counts requests
+-- that it noted, and a settled count that is at most that
+pub record FilingBounds (h : Filing) : Type 0 where
+  pub j-k : h .j ≤ h .k
+  pub k-list : h .k ≤ length (h .list)
+  pub list-max : length (h .list) ≤ requestsMax
+
 -- no request is submitted twice, each has its tick, and there are at most 64
 pub record Submissions (requests ticks : List ℕ) : Type 0 where
   pub once : Once requests
@@ -42,6 +49,7 @@ pub record Common (kit : Kit) (r : Room) (p : Replica) : Type 0 where
   pub held-backed : (h : ℕ) → p .held ≡ some h → Backed kit r h
   pub running-holds-none : isRunning (p .condition) ≡ true → p .held ≡ none
   pub closed-holds : isClosed (p .condition) ≡ true → (h : ℕ) × (p .held ≡ some h)
+  pub pairs-few : length (p .pairMarks) ≤ length (p .noted)
 
 -- of an active one, x, that issued `ags` on ag and `ups` on up and has settled c but for a closing
 pub record Active (kit : Kit) (r : Room) (x : ℕ) (p : Replica) (ags ups : List Content) (c : ℕ) : Type 0 where
@@ -68,10 +76,10 @@ pub record Part (kit : Kit) (r : Room) (x : ℕ) (p : Replica) (ags ups : List C
   pub ag-few : length ags ≤ suc (length (p .noted))
   pub up-few : length ups ≤ suc (length (p .noted))
 
--- the parts of the correct replicas; every filed history is at least k long; which replicas are faulty never changes
+-- the parts of the correct replicas; how long every filed history is; which replicas are faulty never changes
 pub record Invariant (kit : Kit) (r : Room) : Type 0 where
   pub part : (x : ℕ) → isMarkedFaulty kit x ≡ false → Part kit r x (r .replica x) (r .counter x ag) (r .counter x up)
-  pub histories-long : (i : ℕ) (h : Filing) → nth (r .histories) i ≡ some h → h .k ≤ length (h .list)
+  pub histories-fit : (i : ℕ) (h : Filing) → nth (r .histories) i ≡ some h → FilingBounds h
   pub submissions : Submissions (r .submitted) (r .ticks)
   pub faulty-marked : (x : ℕ) → isFaulty (r .replica x .condition) ≡ isMarkedFaulty kit x
 
@@ -99,6 +107,7 @@ module _ (kit : Kit) {r r₁ : Room} (g : Grows r r₁) where
         held-backed = λ h e. backed-grows (c .held-backed h e);
         running-holds-none = c .running-holds-none;
         closed-holds = c .closed-holds;
+        pairs-few = c .pairs-few;
       }
 
   pub active-grows : {x : ℕ} {p : Replica} {ags ups : List Content} {c : ℕ} → Active kit r x p ags ups c → Active kit r₁ x p ags ups c

@@ -43,6 +43,7 @@ fresh-invariant kit =
           held-backed = λ h e. no-way (cc);
           running-holds-none = λ e. refl;
           closed-holds = λ e. fresh-open (isMarkedFaulty kit x) e;
+          pairs-few = omega arith;
         };
         active = λ ax. record {
           prepared = λ i q e. no-way (cc);
@@ -58,7 +59,7 @@ fresh-invariant kit =
         ag-few = omega arith;
         up-few = omega arith;
       };
-      histories-long = λ i h e. no-way (cc);
+      histories-fit = λ i h e. no-way (cc);
       submissions = record { once = λ i j a e d. no-way (cc); timed = refl; few = omega arith };
       faulty-marked = λ x. fresh-faulty (isMarkedFaulty kit x);
     }

@@ -103,7 +103,7 @@ timed-changed r (filed h n ∷ cs) w =
     timed-changed (withHistory r h n) cs (record { paired = w .paired; past = w .past; rising = w .rising })
 timed-changed r (remembered request ∷ cs) w = timed-changed (remember r request) cs (timed-remember r request w)
 
-timed-tick : (kit : Kit) (r : Room) (gap : ℕ) → Timed r → Timed (tick kit r gap)
+pub timed-tick : (kit : Kit) (r : Room) (gap : ℕ) → Timed r → Timed (tick kit r gap)
 timed-tick kit r gap w =
     let t = tick-ticked kit r gap in
     record {

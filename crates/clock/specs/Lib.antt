@@ -1,0 +1,8 @@
+pub mod Answered
+pub mod AnsweredLaws
+pub mod Tick
+pub mod TickLaws
+pub mod Known
+pub mod KnownLaws
+pub mod Clocked
+pub mod ClockLaws

@@ -1,0 +1,6 @@
+pub mod Enter
+pub mod Apply
+pub mod Done
+pub mod EffectLaws
+pub mod DecisionLaws
+pub mod DoneLaws

@@ -1,0 +1,27 @@
+-- `take_into`: the invariant is Filling. Assumes nothing.
+use Prim.Native.Nat.{_-_}
+use native.Mathlib.Omega.{arith}
+use borrow.Author.Needs.{needs}
+use Rattle.kit.proofs.Filling.{Filling, filling-first, filling-next, filling-last}
+use Rattle.kit.proofs.take_into.Statement.{statement}
+use Rattle.kit.proofs.take_into.Tie as tie
+
+abbrev Inv-loop : tie.InvT-loop
+Inv-loop bytes at count out₀ i₀ next₀ out i next = Filling bytes at count out₀ out i next
+
+abbrev μ-loop : tie.MeasureT-loop
+μ-loop bytes at count out₀ i₀ next₀ out i next = count - i
+
+pub take-into-spec : {M : Type 1} → statement M
+take-into-spec =
+    tie.close
+    (tie.spec
+    Inv-loop μ-loop
+    (λ c. filling-first (c .before .before .args .bytes .now) (c .before .before .args .at) (c .before .before .args .count) (c .before .before .args .out .now))
+    (λ c κs. search needs) (λ c. search needs)
+    (λ c. omega (arith, c .before .before .loop .inv .storing .long))
+    (λ c. search needs)
+    (λ c. omega arith)
+    (λ c. rw (c .take .ensures) (filling-next (c .before .before .loop .inv) (omega arith)))
+    (λ c. c .before .loop .inv .storing .long)
+    (λ c. filling-last (c .before .loop .inv) (omega arith) (omega arith)))

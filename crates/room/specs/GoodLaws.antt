@@ -1,0 +1,95 @@
+-- What a good kit's numbers say of the player's fixed sizes: at most seven replicas, so the leader, the switch leader and every active one
+-- are below 7, and so are an event's replicas; its names are below 3. Assumes nothing.
+use mathlib.Core.Path.{_≡_, refl}
+use mathlib.Core.Bool.{Bool, true, false}
+use mathlib.Core.Option.{some}
+use mathlib.Core.List.{List, [], _∷_}
+use Prim.Native.Nat.{ℕ, zero, suc, _≤_, _<_}
+use native.Mathlib.Omega.{arith}
+use lib.ListN.{length, getD}
+use Rattle.terms.specs.Limits.{replicas, requestsMax}
+use Rattle.terms.specs.Lists.{nth}
+use Rattle.terms.specs.ListLaws.{no-way}
+use Rattle.terms.specs.Kit.{Kit, GoodKit, Entry, GoodEvent, marksActive, marksFaulty}
+use Rattle.terms.specs.declared.Event.{Event}
+use Rattle.terms.specs.declared.Event.the-variants.{Submit, Issue, Deliver, Hand, Panic, Idle, Build, File}
+use Rattle.rules.specs.Table.{isActive, isMarkedFaulty, switchLeader}
+use Rattle.rules.specs.TableLaws.{roles}
+use Rattle.room.specs.Decide.{concerned}
+
+-- what a table marks, where 0 marks nothing, stands in it
+marked-below : (t : List ℕ) (mark : ℕ → Bool) → mark 0 ≡ false → (x : ℕ) → mark (getD t x 0) ≡ true → x < length t
+marked-below [] mark z x e = no-way (cc)
+marked-below (n ∷ ns) mark z zero e = omega arith
+marked-below (n ∷ ns) mark z (suc x) e = omega (arith, marked-below ns mark z x e)
+
+-- an event's operands that index something
+abbrev pub Operands : Event → List ℕ → Type 0
+Operands (Submit request) l = l ≡ []
+Operands (Issue replica name content) l = (replica < 7) × (name < 3) × (l ≡ [])
+Operands (Deliver sender name value to) l = (sender < 7) × (name < 3) × (to < 7) × (l ≡ [])
+Operands (Hand p q to) l = (to < 7) × (l ≡ [])
+Operands (Panic to) l = (to < 7) × (l ≡ [])
+Operands Idle l = l ≡ []
+Operands Build l = l ≡ []
+Operands (File j k) l = (j ≤ k) × (k ≤ length l) × (length l ≤ requestsMax)
+
+module _ {kit : Kit} (good : GoodKit kit) where
+  pub size-max : length (kit .table) ≤ 7
+  size-max = omega (arith, good .table-length, good .f-high)
+
+  pub leader-below : kit .leader < length (kit .table)
+  leader-below = omega (arith, good .table-length, good .leader-below)
+
+  pub leader-max : kit .leader < 7
+  leader-max = omega (arith, leader-below, size-max)
+
+  pub active-below : (x : ℕ) → isActive kit x ≡ true → x < length (kit .table)
+  unfolding isActive
+  active-below x e = marked-below (kit .table) marksActive refl x e
+
+  pub active-max : (x : ℕ) → isActive kit x ≡ true → x < 7
+  active-max x e = omega (arith, active-below x e, size-max)
+
+  pub faulty-max : (x : ℕ) → isMarkedFaulty kit x ≡ true → x < 7
+  unfolding isMarkedFaulty
+  faulty-max x e = omega (arith, marked-below (kit .table) marksFaulty refl x e, size-max)
+
+  pub switch-below : switchLeader kit < length (kit .table)
+  switch-below = active-below (switchLeader kit) (roles kit good .switch-active)
+
+  pub switch-max : switchLeader kit < 7
+  switch-max = omega (arith, switch-below, size-max)
+
+  pub operands : (e : Event) (l : List ℕ) → GoodEvent (replicas (kit .f)) e l → Operands e l
+  operands (Submit request) l g = g .1
+  operands (Issue replica name content) l g = (omega (arith, g .0, good .f-high), omega (arith, g .1), g .2)
+  operands (Deliver sender name value to) l g =
+      (omega (arith, g .0, good .f-high), omega (arith, g .1), omega (arith, g .2, good .f-high), g .3)
+  operands (Hand p q to) l g = (omega (arith, g .0, good .f-high), g .1)
+  operands (Panic to) l g = (omega (arith, g .0, good .f-high), g .1)
+  operands Idle l g = g
+  operands Build l g = g
+  operands (File j k) l g = (g .0, g .1, g .2)
+
+  concerned-operands : (e : Event) (l : List ℕ) → Operands e l → concerned kit e < 7
+  unfolding concerned
+  concerned-operands (Submit request) l o = leader-max
+  concerned-operands (Issue replica name content) l o = o .0
+  concerned-operands (Deliver sender name value to) l o = o .2
+  concerned-operands (Hand p q to) l o = o .0
+  concerned-operands (Panic to) l o = o .0
+  concerned-operands Idle l o = omega arith
+  concerned-operands Build l o = switch-max
+  concerned-operands (File j k) l o = omega arith
+
+  -- of event n of the kit: its operands, and the replica that it concerns
+  pub entry-operands : (n : ℕ) (e : Entry) → nth (kit .events) n ≡ some e → Operands (e .event) (e .requests)
+  entry-operands n e h = operands (e .event) (e .requests) (good .events-good n e h .event)
+
+  pub entry-concerned : (n : ℕ) (e : Entry) → nth (kit .events) n ≡ some e → concerned kit (e .event) < 7
+  entry-concerned n e h = concerned-operands (e .event) (e .requests) (entry-operands n e h)
+
+-- the replica that a good event concerns is one of the seven
+pub concerned-below : (kit : Kit) (event : Event) (list : List ℕ) → GoodKit kit → GoodEvent (replicas (kit .f)) event list → concerned kit event < 7
+concerned-below kit event list good e = concerned-operands good event list (operands good event list e)

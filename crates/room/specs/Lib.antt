@@ -1,0 +1,9 @@
+pub mod Desk
+pub mod Decide
+pub mod DecideLaws
+pub mod Layout
+pub mod LayoutLaws
+pub mod Bounds
+pub mod BoundsLaws
+pub mod GoodLaws
+pub mod Reached
