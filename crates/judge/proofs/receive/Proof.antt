@@ -1,0 +1,25 @@
+-- `receive` meets its contract. Assumes nothing.
+use borrow.Author.Needs.{needs}
+use Rattle.judge.specs.Judge.{decideReceiveOn}
+use Rattle.judge.proofs.receive.Statement.{statement}
+use Rattle.judge.proofs.receive.Tie as tie
+use Rattle.replica.proofs.accepted_of.Reads as accepted-of-reads
+use Rattle.validity.proofs.is_next.Reads as is-next-reads
+
+pub receive-spec : {M : Type 1} → statement M
+unfolding decideReceiveOn
+receive-spec =
+    tie.close
+    (tie.spec
+    (λ c κs. search needs)
+    (λ c. rw (← c .before .is-too-late .ensures, c .if1 .taken))
+    (λ c κs. search needs)
+    (λ c. rw (← c .before .before .before .is-too-late .ensures, c .before .before .if1 .left, ← c .before .is-too-early .ensures, c .if2 .taken))
+    (λ c κs. search needs)
+    (λ c. rw (← c .before .before .before .before .before .is-too-late .ensures, c .before .before .before .before .if1 .left, ← c .before .before .before .is-too-early .ensures, c .before .before .if2 .left, ← c .before .has-wrong-roles .ensures, c .if3 .taken))
+    (λ c κs. search needs)
+    (λ c κs. search needs)
+    (λ c κs. search needs)
+    (λ c κs. search needs)
+    (λ c. rw (← c .before .before .before .before .before .before .before .before .before .before .is-too-late .ensures, c .before .before .before .before .before .before .before .before .before .if1 .left, ← c .before .before .before .before .before .before .before .before .is-too-early .ensures, c .before .before .before .before .before .before .before .if2 .left, ← c .before .before .before .before .before .before .has-wrong-roles .ensures, c .before .before .before .before .before .if3 .left, ← c .before .before .before .before .accepted-of .ensures, ← c .before .before .before .wide .ensures, ← c .before .before .is-next .ensures, c .before .if4 .taken, ← c .on-content .ensures))
+    (λ c. rw (← c .before .before .before .before .before .before .before .before .before .is-too-late .ensures, c .before .before .before .before .before .before .before .before .if1 .left, ← c .before .before .before .before .before .before .before .is-too-early .ensures, c .before .before .before .before .before .before .if2 .left, ← c .before .before .before .before .before .has-wrong-roles .ensures, c .before .before .before .before .if3 .left, ← c .before .before .before .accepted-of .ensures, ← c .before .before .wide .ensures, ← c .before .is-next .ensures, c .if4 .left)))

@@ -1,0 +1,17 @@
+-- `submit` meets its contract. Assumes nothing.
+use borrow.Author.Tests.{le-leb, lt-leb}
+use borrow.Author.Needs.{needs}
+use Rattle.judge.specs.Judge.{decideSubmitOn}
+use Rattle.judge.proofs.submit.Statement.{statement}
+use Rattle.judge.proofs.submit.Tie as tie
+use Rattle.replica.proofs.holds.Reads as holds-reads
+
+pub submit-spec : {M : Type 1} → statement M
+unfolding decideSubmitOn
+submit-spec =
+    tie.close
+    (tie.spec
+    (λ c κs. search needs)
+    (λ c. rw (← c .before .holds .ensures, c .if1 .taken))
+    (λ c. rw (← c .before .before .holds .ensures, c .before .if1 .left, le-leb _ _ (c .if2 .taken)))
+    (λ c. rw (← c .before .before .holds .ensures, c .before .if1 .left, lt-leb _ _ (c .if2 .left))))

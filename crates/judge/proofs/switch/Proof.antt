@@ -1,0 +1,16 @@
+-- `switch` meets its contract. Assumes nothing.
+use borrow.Author.Needs.{needs}
+use Rattle.judge.specs.Judge.{decideSwitchOn}
+use Rattle.judge.proofs.switch.Statement.{statement}
+use Rattle.judge.proofs.switch.Tie as tie
+use Rattle.validity.proofs.is_same.Reads as is-same-reads
+
+pub switch-spec : {M : Type 1} → statement M
+unfolding decideSwitchOn
+switch-spec =
+    tie.close
+    (tie.spec
+    (λ c κs. search needs)
+    (λ c. rw (c .before .before .if1 .taken, ← c .before .is-same .ensures, c .if2 .taken))
+    (λ c. rw (c .before .before .if1 .taken, ← c .before .is-same .ensures, c .if2 .left))
+    (λ c. rw (c .if1 .left)))

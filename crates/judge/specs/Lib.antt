@@ -1,0 +1,3 @@
+pub mod Judge
+pub mod ValidLaws
+pub mod JudgeLaws

@@ -1,0 +1,28 @@
+-- `put_hex`: the digits from place i on are still to come. Assumes nothing.
+use borrow.Author.Needs.{needs}
+use mathlib.Core.Path.{_≡_, refl, ap}
+use Prim.Native.Nat.{_-_}
+use lib.ListN.{length, drop, drop-of-length-le}
+use Rattle.text.specs.TextLaws.{lays-as}
+use Rattle.kit_plays.specs.Hex.{hexFrom, hex-next, pairBytes}
+use Rattle.printing.specs.LinesLaws.{Rest, rest-start, rest-next, rest-over}
+use Rattle.kit_plays.proofs.put_hex.Statement.{statement}
+use Rattle.kit_plays.proofs.put_hex.Tie as tie
+
+abbrev Inv-loop : tie.InvT-loop
+Inv-loop out₀ at hex place₀ high₀ i₀ out place high i = Rest out₀ at (hexFrom 16 hex) out place (hexFrom high (drop i hex))
+
+abbrev μ-loop : tie.MeasureT-loop
+μ-loop out₀ at hex place₀ high₀ i₀ out place high i = length hex - i
+
+pub put-hex-spec : {M : Type 1} → statement M
+unfolding hexFrom
+put-hex-spec =
+    tie.close
+    (tie.spec Inv-loop μ-loop (λ c. rest-start _ _ refl) (λ c. search needs) (λ c κs. search needs) (λ c κs. search needs) (λ c κs. search needs) (λ c. search needs) (λ c. search needs)
+    (λ c. let s = c .before .before .before .before .before .before .before .before .loop in
+    rw (c .next-waiting .ensures, c .before .before .before .before .before .digit .ensures)
+    (rest-next (s .inv) (hex-next (c .before .before .before .before .before .before .before .before .before .before .before .args .hex .now) (s .i) (s .high) (c .before .before .before .before .before .before .before .loop-test .taken))
+    (lays-as (c .before .before .before .put-pair .ensures) (ap (pairBytes _) (c .before .before .before .before .before .digit .ensures)))))
+    (λ c. c .before .loop .inv .long)
+    (λ c. rest-over (c .before .loop .inv) (rw (drop-of-length-le (c .before .before .before .before .args .hex .now) (c .loop-test .left)))))

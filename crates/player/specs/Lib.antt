@@ -1,0 +1,4 @@
+pub mod Turn
+pub mod TurnLaws
+pub mod Shows
+pub mod Plays

@@ -1,0 +1,136 @@
+-- The player's loop: what one event makes of the parts that it keeps, and what the first events do. Laws: TurnLaws. Assumes nothing.
+use mathlib.Core.Bool.{false}
+use mathlib.Core.List.{List, []}
+use Prim.Native.Nat.{ℕ, zero, suc, _+_, min}
+use lib.ListN.{getD, set, replicate}
+use Rattle.terms.specs.Limits.{eventsMax}
+use Rattle.terms.specs.Numbers.{answerNumber}
+use Rattle.terms.specs.declared.Condition.the-variants.{Running}
+use Rattle.ledger.specs.Ledger.{Places}
+use Rattle.replica.specs.declared.Replica.{Replica}
+use Rattle.room.specs.declared.Desk.{Desk}
+use Rattle.room.specs.declared.Roles.{Roles}
+use Rattle.room.specs.declared.Decision.{Decision}
+use Rattle.room.specs.Desk.{freshDesk}
+use Rattle.room.specs.Layout.{Parts}
+use Rattle.room.specs.Decide.{answerOf}
+use Rattle.kit.specs.Reader.{nextIn, listAfter}
+use Rattle.kit.specs.declared.Next.{Next}
+use Rattle.clock.specs.Clocked.{clockOn}
+use Rattle.judge.specs.Judge.{concernedIn}
+use Rattle.judge.specs.JudgeLaws.{judgeOn}
+use Rattle.effect.specs.Done.{doneOn}
+use Rattle.player.specs.declared.Played.{Played}
+
+-- the parts of the room, the answers and clocks so far, the list of the last filed history, and the cursor of the next event
+pub record Stage : Type 0 where
+  pub parts : Parts
+  pub answers : List ℕ
+  pub clocks : List ℕ
+  pub list : List ℕ
+  pub at : ℕ
+
+-- what stands where there is no replica
+abbrev pub noReplica : Replica
+noReplica =
+    record { condition = Running; noted = []; count = 0; marks = []; pairs = 0; mark = 0; accepted = []; holding = false; held = 0 }
+
+-- ---- one event: clock, decision, what is done
+
+-- event k, where the clock has ticked: e is what was read, `list` the requests of a history that it files
+module _ (roles : Roles) (table : List ℕ) (k : ℕ) (s : Stage) (e : Next) (list : List ℕ) where
+  abbrev pub doing : Parts → ℕ → Replica → Decision → Stage
+  doing parts me p d =
+      record {
+        parts = doneOn roles table parts p me d list (e .count);
+        answers = set (s .answers) k (answerNumber (answerOf d));
+        clocks = set (s .clocks) k (parts .desk .clock);
+        list = list;
+        at = e .next;
+      }
+
+  abbrev pub deciding : Parts → ℕ → Replica → Stage
+  deciding parts me p = doing parts me p (judgeOn roles table parts p (e .event))
+
+  abbrev pub ticking : Parts → Stage
+  ticking parts = deciding parts (concernedIn (e .event) roles) (getD (parts .replicas) (concernedIn (e .event) roles) noReplica)
+
+unfoldable pub turnOn : List ℕ → Roles → List ℕ → ℕ → Stage → Stage
+turnOn bytes roles table k s =
+    ticking roles table k s (nextIn bytes (s .at)) (listAfter bytes (s .at) (s .list))
+    (clockOn roles table (s .parts) (nextIn bytes (s .at) .gap))
+
+-- m more events, the next one being event k
+unfoldable pub turnsFrom : List ℕ → Roles → List ℕ → ℕ → ℕ → Stage → Stage
+turnsFrom bytes roles table k zero s = s
+turnsFrom bytes roles table k (suc m) s = turnsFrom bytes roles table (k + 1) m (turnOn bytes roles table k s)
+
+-- ---- the loop's state and what it leaves
+
+abbrev pub stage
+    : Desk
+    → List Replica
+    → List ℕ
+    → List ℕ
+    → List ℕ
+    → List ℕ
+    → List (List ℕ)
+    → List (List ℕ)
+    → List Places
+    → List ℕ
+    → List ℕ
+    → ℕ
+    → Stage
+stage desk replicas answers clocks requests ticks heads lists ledger issued list at =
+    record {
+      parts =
+          record {
+            desk = desk;
+            requests = requests;
+            ticks = ticks;
+            heads = heads;
+            lists = lists;
+            ledger = ledger;
+            issued = issued;
+            replicas = replicas;
+          };
+      answers = answers;
+      clocks = clocks;
+      list = list;
+      at = at;
+    }
+
+-- what is left of a stage when the play ends
+pub record Left : Type 0 where
+  pub parts : Parts
+  pub answers : List ℕ
+  pub clocks : List ℕ
+
+abbrev pub leftOf : Stage → Left
+leftOf s = record { parts = s .parts; answers = s .answers; clocks = s .clocks }
+
+abbrev pub left : Played → List ℕ → List ℕ → List ℕ → List ℕ → List (List ℕ) → List (List ℕ) → List Places → List ℕ → Left
+left p answers clocks requests ticks heads lists ledger issued =
+    leftOf (stage (p .desk) (p .replicas) answers clocks requests ticks heads lists ledger issued [] 0)
+
+-- the first events, `most` of them and no more than a kit has
+unfoldable pub playOn
+    : List ℕ
+    → ℕ
+    → ℕ
+    → Roles
+    → List ℕ
+    → List Replica
+    → List ℕ
+    → List ℕ
+    → List ℕ
+    → List ℕ
+    → List (List ℕ)
+    → List (List ℕ)
+    → List Places
+    → List ℕ
+    → Left
+playOn bytes first most roles table fresh answers clocks requests ticks heads lists ledger issued =
+    leftOf
+    (turnsFrom bytes roles table 0 (min most eventsMax)
+    (stage freshDesk fresh answers clocks requests ticks heads lists ledger issued (replicate 64 0) first))

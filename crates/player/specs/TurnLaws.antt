@@ -1,0 +1,91 @@
+-- Laws of Turn: a turn from what its steps promise, and one event more. Assumes nothing.
+use mathlib.Core.Path.{_≡_, refl, sym, ap, _∙_}
+use mathlib.Core.Bool.{not, _&&_}
+use mathlib.Core.List.{List, map}
+use Prim.Native.Nat.{ℕ, zero, suc, _+_, _-_, _≤_, _<_}
+use native.Mathlib.Omega.{arith}
+use lib.ListN.{getD, set}
+use lib.Dec.{leb}
+use borrow.Author.Tests.{leb-false}
+use Rattle.terms.specs.Lists.{pick}
+use Rattle.terms.specs.ListLaws.{split}
+use Rattle.terms.specs.declared.Event.{Event}
+use Rattle.terms.specs.declared.Event.the-variants as Event
+use Rattle.ledger.specs.Ledger.{book}
+use Rattle.replica.specs.Record.{haltOn}
+use Rattle.replica.specs.declared.Replica.{Replica}
+use Rattle.room.specs.declared.Desk.{Desk}
+use Rattle.room.specs.declared.Roles.{Roles}
+use Rattle.room.specs.declared.Decision.{Decision}
+use Rattle.room.specs.Desk.{countedOn}
+use Rattle.room.specs.Decide.{answerOf}
+use Rattle.terms.specs.Numbers.{answerNumber}
+use Rattle.kit.specs.Reader.{nextIn, listAfter}
+use Rattle.kit.specs.declared.Next.{Next}
+use Rattle.clock.specs.Tick.{tickOn}
+use Rattle.clock.specs.Clocked.{clockOn}
+use Rattle.judge.specs.Judge.{belowSeven, concernedIn, decideOn}
+use Rattle.judge.specs.JudgeLaws.{standingOf, judgeOn}
+use Rattle.effect.specs.Enter.{Entered, submissions, filings, enterOn}
+use Rattle.effect.specs.Apply.{Applied, applyOn}
+use Rattle.effect.specs.Done.{doneOn}
+use Rattle.player.specs.Turn.{Stage, noReplica, turnOn, turnsFrom, stage}
+
+module _ (bytes : List ℕ) (roles : Roles) (table : List ℕ) (k : ℕ) (s : Stage) where
+  -- each step's result is what its definition says of the results before it
+  pub turn-made
+      : {e : Next} {list : List ℕ} {desk : Desk} {seats : List Replica} {me : ℕ} {d : Decision} {n : Entered} {a : Applied} {c : Desk} {answer : ℕ}
+      → e ≡ nextIn bytes (s .at)
+      → list ≡ listAfter bytes (s .at) (s .list)
+      → desk ≡ tickOn (s .parts .desk) (e .gap) roles table (s .parts .requests) (s .parts .ticks) (s .parts .ledger) (s .parts .issued)
+      → seats ≡ pick (not (s .parts .desk .late) && desk .late) (map haltOn (s .parts .replicas)) (s .parts .replicas)
+      → me ≡ concernedIn (e .event) roles
+      → d
+      ≡ decideOn (e .event) (standingOf (getD seats me noReplica)) desk roles (getD seats me noReplica .noted) (getD seats me noReplica .marks)
+      (getD seats me noReplica .accepted) table (s .parts .requests) (s .parts .heads) (s .parts .lists) (s .parts .ledger) (s .parts .issued)
+      → answer ≡ answerNumber (answerOf d)
+      → n
+      ≡ enterOn d desk (getD seats me noReplica .noted) (getD seats me noReplica .count) list (e .count)
+      (submissions (s .parts .requests) (s .parts .ticks)) (filings (s .parts .heads) (s .parts .lists))
+      → a
+      ≡ applyOn (getD seats me noReplica) d desk me roles table (n .heads) (n .lists) (book (s .parts .ledger) (s .parts .issued))
+      → c ≡ countedOn desk d
+      → turnOn bytes roles table k s
+      ≡ stage c (set seats me (a .replica)) (set (s .answers) k answer) (set (s .clocks) k (desk .clock)) (n .requests) (n .ticks) (n .heads)
+      (n .lists) (a .counters .ledger) (a .counters .issued) list (e .next)
+  unfolding turnOn clockOn judgeOn doneOn
+  turn-made he hl hd hs hm hc ha hn hp hk = rw (hk, hp, ha, hn, hc, hm, hs, hd, hl, he)
+
+-- the record concerned is one of the seven
+seven : (n : ℕ) → belowSeven n < 7
+unfolding belowSeven
+seven n = split (leb 7 n) (λ t. rw t (omega arith)) (λ t. rw t (leb-false 7 n t))
+
+pub concerned-seven : (event : Event) (roles : Roles) → concernedIn event roles < 7
+unfolding concernedIn
+concerned-seven (Event.Submit request) roles = seven (roles .leader)
+concerned-seven (Event.Issue replica name content) roles = seven replica
+concerned-seven (Event.Deliver sender name value to) roles = seven to
+concerned-seven (Event.Hand p q to) roles = seven to
+concerned-seven (Event.Panic to) roles = seven to
+concerned-seven Event.Idle roles = omega arith
+concerned-seven Event.Build roles = seven (roles .switcher)
+concerned-seven (Event.File j k) roles = omega arith
+
+-- one event more
+pub turns-next : (bytes : List ℕ) (roles : Roles) (table : List ℕ) (k n : ℕ) (s : Stage) → k < n
+    → turnsFrom bytes roles table k (n - k) s ≡ turnsFrom bytes roles table (k + 1) (n - (k + 1)) (turnOn bytes roles table k s)
+unfolding turnsFrom
+turns-next bytes roles table k n s h =
+    let e : n - k ≡ suc (n - (k + 1)) = omega arith in
+    ap (λ (m : ℕ). turnsFrom bytes roles table k m s) e
+
+pub turns-over : (bytes : List ℕ) (roles : Roles) (table : List ℕ) (k n : ℕ) (s : Stage) → n ≤ k → turnsFrom bytes roles table k (n - k) s ≡ s
+unfolding turnsFrom
+turns-over bytes roles table k n s h =
+    let e : n - k ≡ 0 = omega arith in
+    ap (λ (m : ℕ). turnsFrom bytes roles table k m s) e
+
+pub turns-start : (bytes : List ℕ) (roles : Roles) (table : List ℕ) (n : ℕ) (s : Stage)
+    → turnsFrom bytes roles table 0 n s ≡ turnsFrom bytes roles table 0 (n - 0) s
+turns-start bytes roles table n s = let e : n ≡ n - 0 = omega arith in ap (λ (m : ℕ). turnsFrom bytes roles table 0 m s) e

@@ -1,0 +1,120 @@
+// The player: the first events of a kit, one after the other, on the room's parts. The loop owns the replicas' records and is lent the rest, so
+// that no function takes the room; an event is read, the clock ticks, the event is judged, and what was decided is done.
+ghost use mathlib.Core.Path.{_≡_};
+ghost use Prim.Native.Nat.{min};
+ghost use Rattle.player.specs.Turn.{left, playOn};
+use ledger::Issued;
+use ledger::Ledger;
+use replica::Replica;
+use room::Desk;
+use room::Roles;
+use room::Standing;
+
+// What the loop itself owned when the play ended; the other parts stand in what it was lent.
+pub struct Played {
+    pub desk: Desk,
+    pub replicas: [Replica; 7],
+}
+
+// So many, and no more than a kit has.
+fn at_most(most: usize) -> usize
+    ensures { λ r. ⌜ r ≡ min most 4096 ⌝ }
+{
+    if most < 4096 { most } else { 4096 }
+}
+
+// Plays the first `most` events of a kit whose first event stands at `first`, from a fresh desk, these records and what is lent. After it
+// answers[k] and clocks[k] are event k's; entries past the last event are as they were.
+pub fn play(
+    bytes: &[u8],
+    first: usize,
+    most: usize,
+    roles: Roles,
+    table: &[u32; 7],
+    fresh: [Replica; 7],
+    answers: &mut [u32; 4096],
+    clocks: &mut [u64; 4096],
+    requests: &mut [u32; 64],
+    ticks: &mut [u64; 64],
+    heads: &mut [[usize; 3]; 8],
+    lists: &mut [[u32; 64]; 8],
+    ledger: &mut Ledger,
+    issued: &mut Issued,
+) -> Played
+    ensures { λ r. ⌜ left r (now (answers .exit)) (now (clocks .exit)) (now (requests .exit)) (now (ticks .exit)) (now (heads .exit)) (now (lists .exit)) (now (ledger .exit)) (now (issued .exit)) ≡ playOn (now (bytes .entry)) first most roles (now (table .entry)) fresh (now (answers .entry)) (now (clocks .entry)) (now (requests .entry)) (now (ticks .entry)) (now (heads .entry)) (now (lists .entry)) (now (ledger .entry)) (now (issued .entry)) ⌝ }
+{
+    let mut replicas = fresh;
+    let mut desk = Desk::fresh();
+    let mut list = [0u32; 64];
+    let mut at = first;
+    let n = at_most(most);
+    let mut k: usize = 0;
+    while k < n {
+        let e = kit::next_event(bytes, at, &mut list);
+        let event = e.event;
+        let was = desk.late;
+        let later = clock::tick(desk, e.gap, roles, table, requests, ticks, ledger, issued);
+        desk = later;
+        if clock::turned(was, desk.late) {
+            let halted = clock::halt_all(replicas);
+            replicas = halted;
+        }
+        clocks[k] = desk.clock;
+        let me = judge::concerned(event, roles);
+        let p = replicas[me];
+        let condition = p.condition;
+        let standing = Standing {
+            condition,
+            count: p.count,
+            pairs: p.pairs,
+            holding: p.holding,
+            held: p.held,
+        };
+        let decision = judge::decide(
+            event,
+            standing,
+            desk,
+            roles,
+            &p.noted,
+            &p.marks,
+            &p.accepted,
+            table,
+            requests,
+            heads,
+            lists,
+            ledger,
+            issued,
+        );
+        answers[k] = judge::answer_of(decision);
+        effect::enter(
+            decision,
+            desk,
+            &p.noted,
+            p.count,
+            &list,
+            e.count,
+            requests,
+            ticks,
+            heads,
+            lists,
+        );
+        let q = effect::apply(
+            p,
+            decision,
+            desk,
+            me,
+            roles,
+            table,
+            heads,
+            lists,
+            ledger,
+            issued,
+        );
+        replicas[me] = q;
+        let counted = desk.counted(decision);
+        desk = counted;
+        at = e.next;
+        k = k + 1;
+    }
+    Played { desk, replicas }
+}

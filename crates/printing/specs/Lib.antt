@@ -1,0 +1,6 @@
+pub mod Lines
+pub mod LinesLaws
+pub mod PlayLines
+pub mod PlayText
+pub mod PlayTextLaws
+pub mod Whole

@@ -1,0 +1,31 @@
+-- `is_filed` meets its contract. Assumes nothing.
+use borrow.Author.Tests.{le-leb, lt-leb}
+use borrow.Author.Needs.{needs}
+use Rattle.validity.specs.Validity.{isFiledAt}
+use Rattle.validity.proofs.is_filed.Statement.{statement}
+use Rattle.validity.proofs.is_filed.Tie as tie
+
+pub is-filed-spec : {M : Type 1} → statement M
+unfolding isFiledAt
+is-filed-spec =
+    tie.close
+    (tie.spec
+    (λ c. rw (le-leb _ _ (c .if1 .taken)))
+    (λ c. rw (lt-leb _ _ (c .before .if1 .left), le-leb _ _ (c .if2 .taken)))
+    (λ c. search needs)
+    (λ c. search needs)
+    (λ c. search needs)
+    (λ c. search needs)
+    (λ c. search needs)
+    (λ c. search needs)
+    (λ c. search needs)
+    (λ c. search needs)
+    (λ c. search needs)
+    (λ c κs. search needs)
+    (λ c κs. search needs)
+    (λ c. search needs)
+    (λ c. search needs)
+    (λ c κs. search needs)
+    (λ c. rw (lt-leb _ _ (c .before .before .before .before .before .before .before .before .before .before .if1 .left), lt-leb _ _ (c .before .before .before .before .before .before .before .before .before .if2 .left), ← c .before .before .before .before .before .is-next .ensures, c .before .before .before .before .if3 .taken, ← c .before .before .before .is-next2 .ensures, c .before .before .if4 .taken, ← c .is-borne-out .ensures))
+    (λ c. rw (lt-leb _ _ (c .before .before .before .before .before .before .before .before .if1 .left), lt-leb _ _ (c .before .before .before .before .before .before .before .if2 .left), ← c .before .before .before .is-next .ensures, c .before .before .if3 .taken, ← c .before .is-next2 .ensures, c .if4 .left))
+    (λ c. rw (lt-leb _ _ (c .before .before .before .before .before .before .if1 .left), lt-leb _ _ (c .before .before .before .before .before .if2 .left), ← c .before .is-next .ensures, c .if3 .left)))

@@ -1,0 +1,18 @@
+-- `is_valid` meets its contract. Assumes nothing.
+use borrow.Author.Needs.{needs}
+use Rattle.validity.specs.Validity.{isValidOn}
+use Rattle.validity.proofs.is_valid.Statement.{statement}
+use Rattle.validity.proofs.is_valid.Tie as tie
+
+pub is-valid-spec : {M : Type 1} → statement M
+unfolding isValidOn
+is-valid-spec =
+    tie.close
+    (tie.spec
+    (λ c κs. search needs)
+    (λ c κs. search needs)
+    (λ c κs. search needs)
+    (λ c κs. search needs)
+    (λ c. rw (← c .before .before .before .before .before .is-content .ensures, c .before .before .before .before .if1 .taken, ← c .before .before .before .is-content2 .ensures, c .before .before .if2 .taken, ← c .before .wide .ensures, ← c .is-filed .ensures))
+    (λ c. rw (← c .before .before .before .is-content .ensures, c .before .before .if1 .taken, ← c .before .is-content2 .ensures, c .if2 .left))
+    (λ c. rw (← c .before .is-content .ensures, c .if1 .left)))
