@@ -27,6 +27,7 @@ use Rattle.replica.specs.RecordLaws.{accepted-laid, active-laid, least-laid}
 use Rattle.room.specs.Layout.{Parts, layRoles, layTable, layHeads, layLists, layDesk, layReplicas, layRoom}
 use Rattle.room.specs.LayoutLaws.{head-laid, list-laid, replica-laid}
 use Rattle.room.specs.Bounds.{Bounds}
+use Rattle.room.specs.GoodLaws.{size-max, leader-max}
 use Rattle.printing.specs.Lines.{eventLine, linesFrom}
 use Rattle.printing.specs.LinesLaws.{lines-ext, take-least}
 use Rattle.printing.specs.PlayLines.{eventAt, eventLines, actsIn, settledIn, notedShown, heldShown, lineIn, seatLine, seatLines, playLines}
@@ -38,12 +39,6 @@ unfolding layReplica
 first-said p c = take-pad-le 64 (min c (length (p .noted))) (p .noted) (omega arith) ∙ take-least c (p .noted)
 
 module _ (kit : Kit) (r : Room) (b : Bounds kit r) where
-  table-small : length (kit .table) ≤ 7
-  table-small = omega (arith, b .good .table-length, b .good .f-high)
-
-  leader-small : kit .leader < 7
-  leader-small = omega (arith, b .good .leader-below, b .good .f-high)
-
   -- ---- what a replica has settled
 
   count-said : (x : ℕ) → x < 7
@@ -55,9 +50,9 @@ module _ (kit : Kit) (r : Room) (b : Bounds kit r) where
         lt-leb 7 x below,
         active-laid kit x,
         total-laid (r .counter) x ag below (omega arith),
-        accepted-laid (r .replica x) (kit .leader) up leader-small (omega arith),
+        accepted-laid (r .replica x) (kit .leader) up (leader-max (b .good)) (omega arith),
       )
-      (least-laid kit (r .replica x) table-small x (length (r .counter x ag)))
+      (least-laid kit (r .replica x) (size-max (b .good)) x (length (r .counter x ag)))
 
   noted-said : (x : ℕ) → x < 7
       → notedShown (kit .leader) (layTable kit) (layIssued (r .counter)) x (layReplica (r .replica x))
@@ -107,10 +102,10 @@ module _ (kit : Kit) (r : Room) (b : Bounds kit r) where
       ≡ linesFrom 0 (length (kit .table)) (replicaSaid kit r)
   unfolding seatLines layRoles
   seats-said =
-      let m : min (length (kit .table)) 7 ≡ length (kit .table) = omega (arith, table-small) in
+      let m : min (length (kit .table)) 7 ≡ length (kit .table) = omega (arith, (size-max (b .good))) in
       rw m
       (lines-ext (length (kit .table)) 0 _ _
-      (λ x h. let below : x < 7 = omega (arith, h, table-small) in rw (replica-laid (r .replica) x _ below) (seat-said x below)))
+      (λ x h. let below : x < 7 = omega (arith, h, (size-max (b .good))) in rw (replica-laid (r .replica) x _ below) (seat-said x below)))
 
 -- clocks and answers of the first n events are those of the rules
 pub record Says (kit : Kit) (n : ℕ) (clocks answers : List ℕ) : Type 0 where

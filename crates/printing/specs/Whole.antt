@@ -1,6 +1,6 @@
 -- Laws of a text in a lent buffer: it ends within the buffer, and one that ends before the buffer's end is whole, so that nothing is lost
 -- unseen. Assumes nothing.
-use mathlib.Core.Path.{_≡_, ap, _∙_}
+use mathlib.Core.Path.{_≡_, sym, ap, _∙_}
 use mathlib.Core.List.{List, [], _∷_, _++_}
 use Prim.Native.Nat.{ℕ, suc, _+_, _≤_, _<_}
 use native.Mathlib.Nat.{add-zero}
@@ -62,6 +62,10 @@ module _ {s x : List ℕ} {at r : ℕ} {t : List ℕ} (e : Lays s at t r x) wher
   ends-whole h =
       let n : r ≡ laid s at t .next = ap (λ (p : Put). p .next) (e .is) in
       e .is ∙ laid-whole t s at (rw (← n) h)
+
+-- a promise of this form leaves one place and one buffer
+pub one-text : {s x y : List ℕ} {at r q : ℕ} {t : List ℕ} → Lays s at t r x → Lays s at t q y → put r x ≡ put q y
+one-text e d = e .is ∙ sym (d .is)
 
 -- what was put from the buffer's start on is the text
 pub whole-text : {s x : List ℕ} {r : ℕ} {t : List ℕ} → Lays s 0 t r x → r < length s → take r x ≡ t

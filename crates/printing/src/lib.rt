@@ -77,7 +77,7 @@ fn put_event(out: &mut [u8], at: usize, number: u64, clock: u64, answer: u64) ->
 }
 
 // The lines of the first n events, of 4,096 at the most.
-pub fn put_events(
+fn put_events(
     out: &mut [u8],
     at: usize,
     clocks: &[u64; 4096],
@@ -269,7 +269,7 @@ fn put_seat(
 }
 
 // One line for each of the kit's replicas, of seven at the most.
-pub fn put_replicas(
+fn put_replicas(
     out: &mut [u8],
     at: usize,
     replicas: [Replica; 7],
