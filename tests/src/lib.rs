@@ -1,0 +1,16 @@
+//! Document 01 written again, in plain Rust, to hold the proved programs against. It shares no text with them.
+
+pub mod agreement;
+pub mod cases;
+pub mod generator;
+pub mod kit;
+pub mod lent;
+#[cfg(feature = "library")]
+pub mod library;
+pub mod play;
+pub mod print;
+pub mod programs;
+pub mod random;
+pub mod tally;
+pub mod text_form;
+pub mod tuned;

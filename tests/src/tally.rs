@@ -1,0 +1,78 @@
+//! How often each kit number, each answer, each condition and each case was met.
+
+use crate::agreement::Agreement;
+use crate::cases::{clock, limits, refused, taken, Before, CASES};
+use crate::kit::Kit;
+use crate::play::{Condition, Room};
+use std::collections::BTreeMap;
+use std::fmt::Write;
+
+const KIT_NUMBERS: [usize; 7] = [0, 1, 2, 3, 4, 5, 9];
+const ANSWERS: [usize; 15] = [0, 11, 12, 13, 14, 15, 16, 17, 18, 19, 20, 21, 22, 23, 24];
+const CONDITIONS: [Condition; 4] = [Condition::Running, Condition::Halted, Condition::Closed, Condition::Faulty];
+
+#[derive(Default)]
+pub struct Tally {
+    pub kits: u64,
+    pub events: u64,
+    kit_numbers: [u64; 10],
+    answers: [u64; 25],
+    conditions: [u64; 4],
+    cases: BTreeMap<&'static str, u64>,
+}
+
+impl Tally {
+    /// Counts a kit that was given this number, and plays it if that is 0. Gives the first breach of demand 3, if there is one.
+    pub fn take(&mut self, number: u8, kit: Option<&Kit>) -> Result<(), String> {
+        self.kits += 1;
+        self.kit_numbers[number as usize] += 1;
+        kit.map_or(Ok(()), |kit| self.play(kit))
+    }
+
+    fn play(&mut self, kit: &Kit) -> Result<(), String> {
+        let mut room = Room::new(kit);
+        let mut agreement = Agreement::new(room.replicas.len());
+        let mut verdict = Ok(());
+        for (i, event) in kit.events.iter().enumerate() {
+            let before = Before::new(&room, &event.action);
+            let answer = room.step(event);
+            self.events += 1;
+            self.answers[answer as usize] += 1;
+            let mut meet = |case| *self.cases.entry(case).or_insert(0) += 1;
+            match answer {
+                0 => taken(&room, &before, &event.action, &mut meet),
+                _ => meet(refused(&room, &event.action, answer)),
+            }
+            clock(&room, &before, answer, &mut meet);
+            verdict = verdict.and_then(|()| agreement.take_room(&room).map_err(|e| format!("after event {}: {e}", i + 1)));
+        }
+        limits(&room, &mut |case| *self.cases.entry(case).or_insert(0) += 1);
+        for p in &room.replicas {
+            self.conditions[p.condition as usize] += 1;
+        }
+        verdict
+    }
+
+    fn rows(&self) -> Vec<(String, u64)> {
+        let kits = KIT_NUMBERS.iter().map(|&n| (format!("kit {n}"), self.kit_numbers[n]));
+        let answers = ANSWERS.iter().map(|&n| (format!("answer {n}"), self.answers[n]));
+        let conditions = CONDITIONS.iter().map(|&c| (format!("condition {c:?}").to_lowercase(), self.conditions[c as usize]));
+        let cases = CASES.iter().map(|&c| (c.to_string(), self.cases.get(c).copied().unwrap_or(0)));
+        kits.chain(answers).chain(conditions).chain(cases).collect()
+    }
+
+    /// What was never met.
+    pub fn missing(&self) -> Vec<String> {
+        assert!(self.cases.keys().all(|c| CASES.contains(c)), "a case that CASES does not list");
+        self.rows().into_iter().filter(|row| row.1 == 0).map(|row| row.0).collect()
+    }
+
+    pub fn report(&self) -> String {
+        let mut out = String::new();
+        writeln!(out, "{} kits, {} events", self.kits, self.events).unwrap();
+        for (name, count) in self.rows() {
+            writeln!(out, "{count:>10}  {name}").unwrap();
+        }
+        out
+    }
+}

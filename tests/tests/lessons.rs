@@ -1,0 +1,72 @@
+//! The lesson kits: each is what its text says, prints what stands beside it, and teaches what its page says.
+
+use model::kit::{bytes, read, Action, Kit};
+use model::play::Room;
+use model::print::kitplay;
+use model::text_form;
+use std::fs;
+use std::path::PathBuf;
+
+const LESSONS: [&str; 5] = ["clean", "late", "switch", "faulty-leader", "faulty-switch-leader"];
+
+fn file(name: &str, kind: &str) -> Vec<u8> {
+    let path = PathBuf::from(env!("CARGO_MANIFEST_DIR")).join("lessons").join(format!("{name}.{kind}"));
+    fs::read(&path).unwrap_or_else(|e| panic!("{}: {e}", path.display()))
+}
+
+fn text(name: &str, kind: &str) -> String {
+    String::from_utf8(file(name, kind)).expect("text")
+}
+
+fn kit(name: &str) -> Kit {
+    read(&file(name, "kit")).expect("a good kit")
+}
+
+#[test]
+fn kits_are_what_their_texts_say_and_print_what_stands_beside_them() {
+    for name in LESSONS.into_iter().chain(["late-without-gaps"]) {
+        assert_eq!(text_form::bytes(&text(name, "txt")).as_ref(), Ok(&file(name, "kit")), "{name}");
+        assert_eq!(kitplay(&file(name, "kit")), text(name, "play"), "{name}");
+    }
+}
+
+#[test]
+fn pages_quote_the_plays() {
+    for name in LESSONS {
+        let plays = text(name, "play") + &text("late-without-gaps", "play");
+        let page = text(name, "md");
+        let quoted = page.lines().filter_map(|line| line.strip_prefix("    ")).filter(|line| *line != "...");
+        for line in quoted {
+            assert!(plays.lines().any(|l| l == line), "{name}: {line}");
+        }
+    }
+}
+
+/// The least patience at which nobody is late.
+fn least_patience(mut kit: Kit) -> u32 {
+    let is_late = |kit: &Kit| {
+        let mut room = Room::new(kit);
+        for event in &kit.events {
+            room.step(event);
+        }
+        room.late.is_some()
+    };
+    kit.patience = 1;
+    while is_late(&kit) {
+        kit.patience += 1;
+    }
+    kit.patience
+}
+
+#[test]
+fn the_wrong_number() {
+    let (clean, late, old) = (kit("clean"), kit("late"), kit("late-without-gaps"));
+    assert_eq!(bytes(&Kit { patience: 10, ..clean.clone() }), bytes(&late));
+    let mut dropped = late.clone();
+    for event in dropped.events.iter_mut().filter(|e| e.action == Action::Idle) {
+        event.gap = 0;
+    }
+    assert_eq!(bytes(&dropped), bytes(&old));
+    assert_eq!(least_patience(clean), 12);
+    assert_eq!(least_patience(old), 6);
+}

@@ -1,0 +1,333 @@
+//! How document 01 is read where it can be read in two ways, point by point as docs/DECISIONS.md numbers them.
+
+mod common;
+use common::{after, answers, last, number, FIVE, THREE};
+use model::kit::{of_numbers, Content};
+use model::play::Condition;
+use model::print::kitplay;
+
+/// f = 1 with the leader, the switch leader or the passive replica faulty.
+const LEADER: &str = "f 1\nleader 0\npatience 10\nreplicas 3 1 0\n";
+const SWITCH_LEADER: &str = "f 1\nleader 0\npatience 10\nreplicas 1 3 0\n";
+const PASSIVE: &str = "f 1\nleader 0\npatience 10\nreplicas 1 1 2\n";
+
+/// A request, noted and settled by the switch leader.
+const ONE: &str = "0 1 7 / 0 3 0 0 1 1";
+
+#[test]
+fn r1_the_first_fault_from_the_left() {
+    assert_eq!(number("01 03"), 3);
+    assert_eq!(number("01 02"), 1);
+    assert_eq!(number("00 80 00"), 3);
+    assert_eq!(number("01 80 00 00"), 2);
+    assert_eq!(number(""), 1);
+}
+
+#[test]
+fn r2_the_table_is_judged_after_its_last_replica() {
+    assert_eq!(number("01 02 01 01 01"), 1);
+    assert_eq!(number("01 02 01 01 01 00"), 3);
+    assert_eq!(number("01 00 01 04"), 3);
+    assert_eq!(number("01 00 01 01 01 01"), 3);
+    assert_eq!(number("01 00 01 01 01 01 80 00"), 3);
+    assert_eq!(number("01 00 01 03 03 00"), 3);
+    assert_eq!(number("01 00 01 03 01 00 00"), 0);
+    assert_eq!(number("01 00 00"), 3);
+}
+
+#[test]
+fn r3_kind_8() {
+    let kit = |rest: &str| number(&format!("01 00 0A 01 01 00 01 00 08 {rest}"));
+    assert_eq!(kit("02 01"), 4);
+    assert_eq!(kit("FF FF FF FF 0F"), 1);
+    assert_eq!(kit("00 41"), 1);
+    assert_eq!(kit("00 41 00"), 4);
+    assert_eq!(kit("01 01 FF FF FF FF 0F"), 4);
+    assert_eq!(kit("00 FF FF FF FF 0F 02"), 4);
+    assert_eq!(kit("00 00 00"), 0);
+    assert_eq!(kit("00 01 01 05 05"), 0);
+    assert_eq!(kit("00 01 01 05 00"), 4);
+}
+
+#[test]
+fn r4_unused_b_and_free_operands() {
+    let issue = |rest: &str| number(&format!("01 00 0A 03 01 00 01 00 02 {rest}"));
+    for kind in ["01", "04", "05"] {
+        assert_eq!(issue(&format!("00 00 {kind} 00 01")), 4);
+        assert_eq!(issue(&format!("00 02 {kind} 09 00")), 0);
+    }
+    for kind in ["02", "03"] {
+        assert_eq!(issue(&format!("00 00 {kind} 00 FF FF FF FF 0F")), 0);
+    }
+    assert_eq!(issue("00 03"), 4);
+    assert_eq!(issue("03"), 4);
+    assert_eq!(issue("00 00 00"), 4);
+    assert_eq!(issue("00 00 06"), 4);
+    assert_eq!(answers(LEADER, "0 2 0 2 1 0 0"), [0]);
+}
+
+#[test]
+fn r5_cut_or_misspelled() {
+    assert_eq!(number("80 80 80 80"), 1);
+    assert_eq!(number("80 80 80 80 10"), 2);
+    assert_eq!(number("80 80 80 80 80"), 2);
+    assert_eq!(number("80 80 80 80 FF"), 2);
+    assert_eq!(number("80 80 80 80 00"), 2);
+    assert_eq!(number("80 80"), 1);
+    assert_eq!(number("81 00"), 2);
+    assert_eq!(number("81 80 00"), 2);
+}
+
+#[test]
+fn r6_kit_9_goes_by_length() {
+    assert_eq!(kitplay(&[0x80; 65_537]), "kit 9\n");
+    assert_eq!(kitplay(&[0x80; 65_536]), "kit 2\n");
+}
+
+#[test]
+fn r7_numbers_that_end_too_soon_or_go_on() {
+    assert_eq!(of_numbers(&[1, 0, 10, 1, 1, 0, 1, 0]).err(), Some(1));
+    assert_eq!(of_numbers(&[1, 0, 10, 1, 1, 0, 0, 0]).err(), Some(5));
+    assert_eq!(of_numbers(&[1, 0, 10, 1, 1, 0, 1, 1 << 28]).err(), Some(4));
+}
+
+#[test]
+fn r8_r9_the_order_of_the_rows() {
+    // 16 before 15
+    assert_eq!(answers(PASSIVE, "0 3 0 0 1 2 / 0 4 1 1 2"), [16, 16]);
+    // 15 before 17
+    assert_eq!(answers(THREE, "0 5 1 / 0 3 0 0 1 1 / 0 4 1 1 1"), [0, 15, 15]);
+    // 17 before 20: ag to a halted passive one
+    assert_eq!(answers(THREE, "0 1 7 / 0 5 2 / 0 3 0 0 1 2"), [0, 0, 17]);
+    // 20 before 19 and 21
+    assert_eq!(answers(THREE, "0 1 7 / 0 1 5 / 0 3 0 0 2 2 / 0 3 0 0 1 2 / 0 3 0 0 1 0"), [0, 0, 20, 20, 20]);
+    // 19 before 21: a COMMIT ahead of what is noted
+    assert_eq!(answers(SWITCH_LEADER, "0 2 1 0 2 9 9 / 0 2 1 0 2 9 9 / 0 3 1 0 2 0 / 0 3 1 0 1 0"), [0, 0, 19, 21]);
+    // the switch leader that is handed a history: running, halted, holding
+    let start = "0 1 7 / 0 3 0 0 1 1 / 0 4 1 1 1 / 0 5 1 / 0 4 1 1 1 / 0 7 / 0 4 2 2 1";
+    assert_eq!(answers(THREE, start), [0, 0, 18, 0, 20, 0, 17]);
+    // its own SWITCH to itself
+    assert_eq!(last(THREE, &format!("{start} / 0 3 1 2 1 1")), 20);
+    // 13 before 21, 21 before 14
+    assert_eq!(answers(THREE, "0 2 0 0 4 0 0"), [13]);
+    let full: String = (0..96).map(|_| "0 2 2 0 1 0 0 / ").collect();
+    assert_eq!(last(PASSIVE, &format!("{full} 0 2 2 0 1 0 0")), 14);
+    assert_eq!(last(PASSIVE, &format!("{full} 0 2 2 0 5 0 0")), 21);
+    // 11 before 12
+    let many: String = (1..=64).map(|r| format!("0 1 {r} / ")).collect();
+    assert_eq!(last(THREE, &format!("{many} 0 1 64")), 11);
+    assert_eq!(last(THREE, &format!("{many} 0 1 65")), 12);
+}
+
+#[test]
+fn r10_kind_2_names_an_unfiled_history() {
+    assert_eq!(answers(PASSIVE, "0 2 2 0 4 0 0 / 0 2 2 1 5 0 0 / 0 8 0 0 0 / 0 2 2 1 5 0 0 / 0 2 2 0 4 1 0"), [21, 21, 0, 0, 21]);
+    // one that event 7 filed counts
+    assert_eq!(answers(PASSIVE, "0 5 1 / 0 7 / 0 2 2 2 5 0 0"), [0, 0, 0]);
+}
+
+#[test]
+fn r11_hand_of_no_history_or_of_two() {
+    let events = "0 8 0 0 0 / 0 8 0 0 0 / 0 2 1 0 4 0 0 / 0 2 1 1 4 1 0 / 0 2 1 1 5 0 0 / 0 2 1 0 5 0 0 / 0 5 2";
+    assert_eq!(last(SWITCH_LEADER, &format!("{events} / 0 4 1 1 2")), 22);
+    assert_eq!(last(SWITCH_LEADER, &format!("{events} / 0 4 1 2 2")), 22);
+    assert_eq!(last(SWITCH_LEADER, &format!("{events} / 0 4 2 1 2")), 22);
+}
+
+#[test]
+fn r12_everybody_may_switch() {
+    // f = 2: a faulty passive one and a correct passive one make 2 close
+    let settings = "f 2\nleader 0\npatience 10\nreplicas 1 1 1 0 2\n";
+    let events = "0 5 1 / 0 7 / 0 5 2 / 0 4 1 1 2 / 0 5 3 / 0 4 1 1 3 / 0 2 4 2 5 0 0 / 0 3 3 2 1 2 / 0 3 4 2 1 2";
+    assert_eq!(answers(settings, events), [0; 9]);
+    assert_eq!(after(settings, events, |room| room.replicas[2].condition), Condition::Closed);
+}
+
+#[test]
+fn r13_r14_lateness_once() {
+    let late = |events: &str| after(THREE, events, |room| room.late);
+    assert_eq!(late("3 1 7 / 9 6"), None);
+    assert_eq!(late("3 1 7 / 10 6"), Some(13));
+    assert_eq!(late("3 1 7 / 1 1 5 / 50 6"), Some(13));
+    assert_eq!(late("3 1 7 / 50 6 / 0 1 5 / 50 6"), Some(13));
+    // a refused event notices it, and nobody need be left to halt
+    assert_eq!(late("3 1 7 / 50 1 7"), Some(13));
+    assert_eq!(late("3 1 7 / 0 5 0 / 0 5 1 / 0 5 2 / 50 6"), Some(13));
+    assert_eq!(late("3 1 7 / 0 5 0 / 0 5 1 / 0 5 2 / 9 6"), None);
+    // a submission at the late event itself does not wait yet
+    assert_eq!(answers(THREE, "3 1 7 / 50 1 5"), [0, 0]);
+}
+
+#[test]
+fn r15_answered_is_about_what_was_issued() {
+    let late = |settings: &str, events: &str| after(settings, events, |room| room.late);
+    // every active replica's UPDATE is issued, none is delivered
+    assert_eq!(late(THREE, &format!("{ONE} / 0 3 1 0 1 0 / 50 6")), None);
+    assert_eq!(late(THREE, &format!("{ONE} / 50 6")), Some(10));
+    // a faulty active replica's UPDATE counts, with the same mark only
+    let events = "0 1 7 / 0 2 1 0 2 7 1 / 0 3 1 0 1 0";
+    assert_eq!(late(SWITCH_LEADER, &format!("{events} / 0 2 1 1 3 7 7 / 50 6")), None);
+    assert_eq!(late(SWITCH_LEADER, &format!("{events} / 0 2 1 1 3 7 8 / 50 6")), Some(10));
+    // at another value it is another
+    assert_eq!(late(SWITCH_LEADER, &format!("{events} / 0 2 1 1 3 9 9 / 0 2 1 1 3 7 7 / 50 6")), Some(10));
+    // closing answers nothing
+    let closing = "0 1 7 / 0 5 0 / 0 5 1 / 0 5 2 / 0 7 / 0 4 1 1 0 / 0 4 1 1 2 / 0 3 0 2 1 1 / 0 3 1 2 1 0 / 0 3 1 2 1 2";
+    assert_eq!(answers(THREE, closing), [0; 10]);
+    after(THREE, &format!("{closing} / 10 6"), |room| {
+        assert!(room.replicas.iter().all(|p| p.condition == Condition::Closed));
+        assert!((0..3).all(|x| room.settled(x) == [7]));
+        assert_eq!(room.late, Some(10));
+    });
+}
+
+#[test]
+fn r16_passive_ones_halt_too_and_the_clock_is_long() {
+    after(THREE, "0 1 7 / 10 6", |room| assert!(room.replicas.iter().all(|p| p.condition == Condition::Halted)));
+    let far = format!("0 6 / {} 0 1 7 / 268435455 6", "268435455 6 / ".repeat(20));
+    after(THREE, &far, |room| {
+        assert_eq!(room.clock, 21 * 268435455);
+        assert_eq!(room.late, Some(20 * 268435455 + 10));
+    });
+}
+
+#[test]
+fn r17_a_submission_without_a_running_leader() {
+    assert_eq!(answers(LEADER, "0 1 7 / 0 1 7"), [0, 11]);
+    after(THREE, "0 5 0 / 0 1 7", |room| {
+        assert_eq!(room.submitted, [(7, 0)]);
+        assert!(room.counters[0][0].is_empty() && room.replicas[0].noted.is_empty());
+    });
+}
+
+#[test]
+fn r18_judged_at_the_delivery() {
+    assert_eq!(answers(LEADER, "0 2 0 0 1 5 0 / 0 3 0 0 1 1 / 0 1 5 / 0 3 0 0 1 1"), [0, 21, 0, 0]);
+    assert_eq!(answers(LEADER, "0 1 5 / 0 2 0 0 1 5 0 / 0 2 0 0 1 5 0 / 0 3 0 0 1 1 / 0 3 0 0 2 1"), [0, 0, 0, 0, 21]);
+}
+
+#[test]
+fn r19_the_last_places_of_a_correct_replica() {
+    let mut events: String = (1..=64).map(|r| format!("0 1 {r} / 0 3 0 0 {r} 1 / ")).collect();
+    events.push_str("0 5 1 / 0 7");
+    after(THREE, &events, |room| {
+        assert_eq!([0, 1, 2].map(|name| room.counters[1][name].len()), [65, 65, 1]);
+        assert_eq!(room.issued(1, 0, 65), Some(Content::History(0)));
+        assert_eq!((room.histories[0].j, room.histories[0].k, room.settled(1).len()), (64, 64, 64));
+    });
+}
+
+#[test]
+fn r20_a_history_by_kind_3() {
+    let events = "0 5 1 / 0 7 / 0 3 1 0 1 0 / 0 3 1 1 1 2 / 0 5 0 / 0 3 1 0 1 0";
+    assert_eq!(answers(THREE, events), [0, 0, 21, 21, 0, 17]);
+}
+
+#[test]
+fn r21_a_faulty_record_is_never_touched() {
+    let events = "0 1 7 / 0 2 0 0 1 7 0 / 0 3 0 0 1 1 / 0 3 1 0 1 0 / 50 5 0";
+    after(LEADER, events, |room| {
+        let p = &room.replicas[0];
+        assert_eq!((p.condition, p.noted.len(), p.mark, p.held), (Condition::Faulty, 0, 0, None));
+        assert!(p.accepted.iter().all(|a| *a == [0; 3]));
+    });
+}
+
+#[test]
+fn r22_r23_a_pair_keeps_the_mark_it_came_with() {
+    // the faulty switch leader's UPDATE comes first, with a wrong mark
+    let events = "0 1 7 / 0 2 1 0 2 7 1 / 0 3 1 0 1 0 / 0 2 1 1 3 7 9 / 0 3 1 1 1 2 / 0 3 0 1 1 2";
+    assert_eq!(answers(SWITCH_LEADER, events), [0, 0, 0, 0, 0, 21]);
+    after(SWITCH_LEADER, events, |room| {
+        assert_eq!((room.replicas[2].noted.as_slice(), room.replicas[2].marks.as_slice()), ([7].as_slice(), [9].as_slice()));
+        assert_eq!((room.settled(2).len(), room.replicas[2].mark), (0, 0));
+    });
+}
+
+#[test]
+fn r24_panic() {
+    assert_eq!(answers(THREE, &format!("{ONE} / 0 5 1 / 0 5 1 / 0 3 1 0 1 0")), [0, 0, 0, 17, 0]);
+    after(THREE, &format!("{ONE} / 0 5 1"), |room| {
+        assert_eq!((room.replicas[1].condition, room.settled(1), room.late), (Condition::Halted, [7].as_slice(), None));
+    });
+}
+
+#[test]
+fn r25_build() {
+    // the tail: also what was submitted after the halt
+    after(THREE, &format!("{ONE} / 0 1 5 / 0 5 1 / 0 1 9 / 0 7"), |room| {
+        assert_eq!((room.histories[0].j, room.histories[0].k), (1, 1));
+        assert_eq!(room.histories[0].list, [7, 5, 9]);
+    });
+    assert_eq!(answers(THREE, "0 7 / 0 5 1 / 0 7 / 0 7"), [24, 0, 0, 24]);
+    assert_eq!(answers(SWITCH_LEADER, "0 7"), [24]);
+    let closed = "0 5 1 / 0 7 / 0 5 0 / 0 4 1 1 0 / 0 3 0 2 1 1 / 0 7";
+    assert_eq!(answers(THREE, closed), [0, 0, 0, 0, 0, 24]);
+}
+
+#[test]
+fn r26_the_hand_looks_at_counters() {
+    // 0 never accepted anything of 1, and nothing of it is asked for or moved
+    let events = format!("{ONE} / 0 5 1 / 0 7 / 0 5 0 / 0 4 2 2 0");
+    assert_eq!(last(THREE, &events), 0);
+    after(THREE, &events, |room| assert_eq!(room.replicas[0].accepted, [[0; 3]; 3]));
+    // the history is filed before its request is submitted, and handed after
+    let early = "0 8 0 0 1 7 / 0 2 1 0 4 0 0 / 0 2 1 1 4 0 0 / 0 5 2 / 0 4 1 1 2 / 0 1 7 / 0 4 1 1 2";
+    assert_eq!(answers(SWITCH_LEADER, early), [0, 0, 0, 0, 22, 0, 0]);
+    // p and q are compared with k and j, not with totals
+    let more = "0 8 0 0 0 / 0 2 1 0 4 0 0 / 0 2 1 1 4 0 0 / 0 2 1 0 2 9 9 / 0 2 1 1 2 9 9 / 0 5 2 / 0 4 1 1 2";
+    assert_eq!(last(SWITCH_LEADER, more), 0);
+}
+
+#[test]
+fn r27_every_other_active_replica() {
+    // f = 2, faulty switch leader: with j = 1 the COMMIT of 2 is needed, the receiver's own; without it 22
+    let settings = "f 2\nleader 0\npatience 10\nreplicas 1 3 1 0 0\n";
+    let history = "0 2 1 0 2 7 1 / 0 2 1 1 3 7 7 / 0 8 1 1 0 7 / 0 2 1 0 4 0 0 / 0 2 1 1 4 0 0";
+    assert_eq!(last(settings, &format!("0 1 7 / {history} / 0 5 2 / 0 4 2 2 2")), 22);
+    assert_eq!(last(settings, &format!("0 1 7 / 0 3 0 0 1 2 / {history} / 0 5 2 / 0 4 2 2 2")), 0);
+    assert_eq!(last(settings, &format!("0 1 7 / 0 3 0 0 1 2 / {history} / 0 5 3 / 0 4 2 2 3")), 0);
+    // with f = 1 nobody else is asked
+    assert_eq!(last(SWITCH_LEADER, &format!("0 1 7 / {history} / 0 5 2 / 0 4 2 2 2")), 0);
+}
+
+#[test]
+fn r28_a_twin_is_another_history() {
+    let events = "0 8 0 0 0 / 0 8 0 0 0 / 0 2 1 0 4 0 0 / 0 2 1 1 4 0 0 / 0 5 2 / 0 4 1 1 2 / 0 2 1 2 5 1 0 / 0 3 1 2 1 2";
+    assert_eq!(last(SWITCH_LEADER, events), 21);
+    let own = "0 8 0 0 0 / 0 8 0 0 0 / 0 2 1 0 4 0 0 / 0 2 1 1 4 0 0 / 0 5 2 / 0 4 1 1 2 / 0 2 1 2 5 0 0 / 0 3 1 2 1 2";
+    assert_eq!(last(SWITCH_LEADER, own), 0);
+}
+
+#[test]
+fn r29_f_different_senders() {
+    let events = "0 5 1 / 0 7 / 0 5 2 / 0 4 1 1 2 / 0 3 1 2 1 2";
+    assert_eq!(after(FIVE, events, |room| room.replicas[2].condition), Condition::Halted);
+    assert_eq!(after(THREE, events, |room| room.replicas[2].condition), Condition::Closed);
+}
+
+#[test]
+fn r30_closing() {
+    // the leader has noted 7 and 5 and settled 7; it closes on all three, in the history's order
+    let events = "0 1 7 / 0 3 0 0 1 1 / 0 3 1 0 1 0 / 0 1 5 / 0 5 1 / 0 1 9 / 0 7 / 0 5 0 / 0 4 2 2 0 / 0 3 1 2 1 0";
+    assert_eq!(answers(THREE, events), [0; 10]);
+    after(THREE, events, |room| {
+        let p = &room.replicas[0];
+        assert_eq!((p.condition, room.settled(0)), (Condition::Closed, [7, 5, 9].as_slice()));
+        assert_eq!(p.mark, ((7 * 2) + 5) * 2 + 9);
+        assert_eq!(p.noted, [7, 5, 9]);
+        assert_eq!(p.accepted, [[0, 0, 0], [1, 0, 1], [0, 0, 0]]);
+        assert_eq!(room.counters[0][1].len(), 1);
+    });
+}
+
+#[test]
+fn r31_seven_and_one() {
+    let seven = "0 8 0 0 0 / ".repeat(7);
+    assert_eq!(last(THREE, &format!("{seven} 0 8 0 0 0")), 23);
+    let all = format!("0 8 0 0 0 / 0 5 1 / 0 7 / {} 0 8 0 0 0", "0 8 0 0 0 / ".repeat(6));
+    assert_eq!(answers(THREE, &all), [0, 0, 0, 0, 0, 0, 0, 0, 0, 23]);
+    after(THREE, &all, |room| {
+        assert_eq!(room.histories.len(), 8);
+        assert_eq!(room.replicas[1].held, Some(1));
+    });
+}
