@@ -650,17 +650,10 @@ pub fn decide<'a>(
 ) -> Decision
     ensures { λ r. ⌜ r ≡ decideOn event standing desk roles (now (noted .entry)) (now (marks .entry)) (now (accepted .entry)) (now (table .entry)) (now (requests .entry)) (now (heads .entry)) (now (lists .entry)) (now (ledger .entry)) (now (issued .entry)) ⌝ }
 {
-    let condition = standing.condition;
+    let c = standing.condition;
     match event {
         Event::Submit(request) => submit(requests, desk.submitted, request),
-        Event::Issue(x, name, content) => issue(
-            issued,
-            condition,
-            desk.histories,
-            x,
-            name,
-            content,
-        ),
+        Event::Issue(x, name, content) => issue(issued, c, desk.histories, x, name, content),
         Event::Deliver(sender, name, value, to) => deliver(
             standing,
             roles.leader,
@@ -691,7 +684,7 @@ pub fn decide<'a>(
             q,
             to,
         ),
-        Event::Panic(_) => panic(condition),
+        Event::Panic(_) => panic(c),
         Event::Idle => Decision::Idle,
         Event::Build => build(standing, roles, accepted, table, issued),
         Event::File(j, k) => file(desk.filed, j, k),
