@@ -1,16 +1,16 @@
 -- Document 01, "Both sides of the line": P1 to P12 and its two lines about f = 2, each an equation over the definitions, under one theorem. Assumes nothing.
 use mathlib.Core.Path.{_≡_, refl}
 use mathlib.Core.Option.{some}
-use mathlib.Core.List.{List, [], _∷_}
+use mathlib.Core.List.{List, [], _∷_, _++_}
 use Prim.Native.Nat.{ℕ, _-_, _^_}
 use Rattle.number.specs.Number.{numberAt, faultNumber}
 use Rattle.number.specs.declared.Found.the-variants.{Number}
 use Rattle.grammar.specs.Parser.{parse, kitAnswer}
+use Rattle.kit.specs.Reader.{numbersIn, checkOf}
 use Rattle.terms.specs.Lists.{nth}
 use Rattle.terms.specs.Mark.{markOf}
 use Rattle.terms.specs.Kit.{Kit, Entry}
 use Rattle.terms.specs.Numbers.{kindOf, kitNumberOf}
-use Rattle.terms.specs.declared.KitAnswer.the-variants.{Accepted}
 use Rattle.terms.specs.declared.Content.the-variants.{Commit, History}
 use Rattle.terms.specs.declared.Condition.the-variants.{Closed}
 use Rattle.terms.specs.declared.Event.{Event}
@@ -31,9 +31,9 @@ at gap event = record { gap = gap; event = event; requests = [] }
 abbrev pub kitOf : ℕ → List ℕ → List Entry → Kit
 kitOf f table events = record { f = f; leader = 0; patience = 10; table = table; events = events }
 
--- the numbers of a kit with this patience, one idle event, and this gap
-abbrev pub waiting : ℕ → ℕ → List ℕ
-waiting patience gap = 1 ∷ 0 ∷ patience ∷ 1 ∷ 1 ∷ 0 ∷ 1 ∷ gap ∷ 6 ∷ []
+-- the bytes of a kit with this patience, one idle event, and this gap, both spelled out
+abbrev pub waiting : List ℕ → List ℕ → List ℕ
+waiting patience gap = (1 ∷ 0 ∷ []) ++ (patience ++ ((1 ∷ 1 ∷ 0 ∷ 1 ∷ []) ++ (gap ++ (6 ∷ []))))
 
 -- the printed kit, with this third gap
 abbrev pub printed : ℕ → Kit
@@ -83,12 +83,12 @@ pub record PaperTable : Type 0 where
   -- FF FF FF FF 10 is 2
   pub p2 : faultNumber (numberAt (0xff ∷ 0xff ∷ 0xff ∷ 0xff ∷ 0x10 ∷ []) 0) ≡ 2
   -- FF FF FF 7F is 2^28-1, a good patience
-  pub p3 : (numberAt (0xff ∷ 0xff ∷ 0xff ∷ 0x7f ∷ []) 0 ≡ Number (2 ^ 28 - 1) 4) × (kitAnswer (waiting (2 ^ 28 - 1) 0) ≡ Accepted)
+  pub p3 : (numberAt (0xff ∷ 0xff ∷ 0xff ∷ 0x7f ∷ []) 0 ≡ Number (2 ^ 28 - 1) 4) × (kitNumberOf (checkOf (waiting (0xff ∷ 0xff ∷ 0xff ∷ 0x7f ∷ []) (0 ∷ []))) ≡ 0)
   -- 80 80 80 80 01 as patience is 3, as gap 4
   pub p4
       : (numberAt (0x80 ∷ 0x80 ∷ 0x80 ∷ 0x80 ∷ 0x01 ∷ []) 0 ≡ Number (2 ^ 28) 5)
-      × (kitNumberOf (kitAnswer (waiting (2 ^ 28) 0)) ≡ 3)
-      × (kitNumberOf (kitAnswer (waiting 10 (2 ^ 28))) ≡ 4)
+      × (kitNumberOf (checkOf (waiting (0x80 ∷ 0x80 ∷ 0x80 ∷ 0x80 ∷ 0x01 ∷ []) (0 ∷ []))) ≡ 3)
+      × (kitNumberOf (checkOf (waiting (10 ∷ []) (0x80 ∷ 0x80 ∷ 0x80 ∷ 0x80 ∷ 0x01 ∷ []))) ≡ 4)
   -- requests 7, 5 give mark 19
   pub p5 : markOf (7 ∷ 5 ∷ []) ≡ 19
   -- 2147483648, 1 give mark 1
@@ -120,7 +120,7 @@ pub record PaperTable : Type 0 where
   pub f2-filed : answer (filing 0) 6 ≡ some NotValid
 
 pub paperTable : PaperTable
-unfolding computing numberAt kitAnswer parse kindOf
+unfolding computing numberAt checkOf numbersIn kitAnswer parse kindOf
 paperTable =
     record {
       p1 = refl;
