@@ -24,16 +24,13 @@ use Rattle.terms.specs.declared.KitAnswer.the-variants.{Accepted, Cut, WrongSet
 use Rattle.grammar.specs.Operands.{operandsOf, operandOf, fits, filedBy}
 use Rattle.grammar.specs.Parser.{Parsed, Refusal, Read, number, andThen, several, alone, operands, eventAfter, kindAfter, entry, tableRight, judged, parse, answerOf, kitAnswer}
 use Rattle.grammar.specs.ParserLaws.{table-reads}
-use Rattle.grammar.specs.Automaton.{on, moreOf, doneOf, refusedOf, withSize, withTurn, withTally, withLeft, withPending, withRequests, atF, atLeader, emptyTally, atPatience, plusOne, tallied, tallyRight, tableDone, atTable, atCount, atGap, completed, filesGoes, filing, operandGoes, begun, kindGoes, atKind, kept, operandRight, atOperand, atRequest, inPhase, feedOf, fresh}
+use Rattle.grammar.specs.Automaton.{Tally, Pending, State, Move, judgeOf, stepOf, stateOf, freshState, moreOf, doneOf, refusedOf, withSize, withTurn, withTally, withLeft, withPending, withRequests, atF, atLeader, emptyTally, atPatience, plusOne, tallied, tallyRight, tableDone, atTable, atCount, atGap, completed, filesGoes, filing, operandGoes, begun, kindGoes, atKind, kept, operandRight, atOperand, atRequest, inPhase, feedOf, fresh}
 use Rattle.grammar.specs.declared.operands.Operand.{Operand}
 use Rattle.grammar.specs.declared.operands.Operand.the-variants.{Any, Replica, Name, Content, B, Request, K, E}
 use Rattle.grammar.specs.declared.Phase.{Phase}
 use Rattle.grammar.specs.declared.Phase.the-variants as Phase
 use Rattle.grammar.specs.declared.Said.{Said}
 use Rattle.grammar.specs.declared.Said.the-variants as Said
-use Rattle.grammar.specs.declared.Tally.{Tally}
-use Rattle.grammar.specs.declared.Pending.{Pending}
-use Rattle.grammar.specs.declared.State.{State}
 use Rattle.grammar.specs.declared.Judge.{Judge}
 use Rattle.grammar.specs.declared.Step.{Step}
 
@@ -53,8 +50,11 @@ abbrev pub run : List ℕ → Judge → KitAnswer
 run [] j = Cut
 run (n ∷ ns) j = goes (feedOf j n .said) ns (run ns (feedOf j n .judge))
 
-abbrev heard : Step → List ℕ → KitAnswer
-heard t ns = goes (t .said) ns (run ns (t .judge))
+abbrev heard : Move → List ℕ → KitAnswer
+heard t ns = goes (t .said) ns (run ns (judgeOf (t .phase) (t .state)))
+
+abbrev on : Phase → State → Judge
+on phase s = judgeOf phase s
 
 -- ---- the parser's answer, part by part
 
@@ -78,7 +78,7 @@ after-ext (Read a ns) κ κ′ e = e a ns refl
 
 -- ---- a phase that goes by one test
 
-module _ {A : Type 0} (j : Judge) (test : ℕ → Bool) (fault : KitAnswer) (step : ℕ → Step) (feeds : (n : ℕ) → feedOf j n ≡ pick (test n) (step n) (record { said = Said.Refused fault; judge = j })) (go : ℕ → List ℕ → Parsed A) (κ : A → List ℕ → KitAnswer) (on-so : (n : ℕ) (ns : List ℕ) → test n ≡ true → heard (step n) ns ≡ after (go n ns) κ) where
+module _ {A : Type 0} (j : Judge) (test : ℕ → Bool) (fault : KitAnswer) (step : ℕ → Move) (feeds : (n : ℕ) → feedOf j n ≡ stepOf (pick (test n) (step n) (refusedOf fault (j .phase) (stateOf j)))) (go : ℕ → List ℕ → Parsed A) (κ : A → List ℕ → KitAnswer) (on-so : (n : ℕ) (ns : List ℕ) → test n ≡ true → heard (step n) ns ≡ after (go n ns) κ) where
   phase : (ns : List ℕ) → run ns j ≡ after (number ns test fault go) κ
   phase [] = refl
   phase (n ∷ ns) = rw (feeds n) (split (test n) (λ t. rw t (on-so n ns t)) (λ t. rw t))
@@ -158,7 +158,7 @@ module _ (s : State) (kind : Kind) where
       let long : length (operandsOf kind) ≡ length done + suc (length row) = ap length is ∙ length-append done (o ∷ row) in
       rw (lt-ltb (length ops) (length (operandsOf kind)) (omega arith))
       (phase (on Phase.Operand (reading ops)) (fits o (s .size) ops) WrongEvent (λ n. operandGoes (reading (ops ++ (n ∷ []))))
-      (λ n. operand-feeds done o row ops n is same) _ _
+      (λ n. ap stepOf (operand-feeds done o row ops n is same)) _ _
       (λ n ms t. operands-phase row (done ++ (o ∷ [])) (ops ++ (n ∷ [])) ms (is ∙ sym (append-snoc done o row)) (length-append ops (n ∷ []) ∙ rw (same, length-append done (o ∷ [])))) ns)
 
 -- ---- an event
@@ -216,17 +216,17 @@ abbrev tallyAll : Tally → ℕ → List ℕ → Tally
 tallyAll t turn [] = t
 tallyAll t turn (n ∷ ns) = tallyAll (tallied t turn n) turn ns
 
-table-phase : (m : ℕ) (s : State) (ns : List ℕ) → s .tally .left ≡ suc m
+table-phase : (m : ℕ) (s : State) (ns : List ℕ) → s .tally .coming ≡ suc m
     → run ns (on Phase.Table s)
     ≡ after (several (suc m) (alone isTableNumber WrongSettings) ns) (λ t ms. heard (tableDone (withTally s (tallyAll (s .tally) (s .turn) t))) ms)
 unfolding feedOf atTable tallied
 table-phase zero s ns is =
-    let none : s .tally .left - 1 ≡ 0 = omega arith in
+    let none : s .tally .coming - 1 ≡ 0 = omega arith in
     phase-alone (on Phase.Table s) isTableNumber WrongSettings (λ n. tableDone (withTally s (tallied (s .tally) (s .turn) n)))
     (λ n. simp none) _ _ (λ n ms t. refl) ns
 table-phase (suc m) s ns is =
     phase-alone (on Phase.Table s) isTableNumber WrongSettings (λ n. moreOf Phase.Table (withTally s (tallied (s .tally) (s .turn) n)))
-    (λ n. simp (lt-ltb 0 (s .tally .left - 1) (omega arith))) _ _
+    (λ n. simp (lt-ltb 0 (s .tally .coming - 1) (omega arith))) _ _
     (λ n ms t. table-phase m (withTally s (tallied (s .tally) (s .turn) n)) ms (omega arith)
     ∙ sym (after-then (several (suc m) (alone isTableNumber WrongSettings) ms) _ _)) ns
 
@@ -273,11 +273,11 @@ and-all : (a : Bool) → (a && true) ≡ a
 and-all true = refl
 and-all false = refl
 
-tally-leads : (l : List ℕ) (t : Tally) (turn : ℕ) → tallyAll t turn l .leads ≡ (t .leads || leadsFrom (t .left) turn l)
+tally-leads : (l : List ℕ) (t : Tally) (turn : ℕ) → tallyAll t turn l .leads ≡ (t .leads || leadsFrom (t .coming) turn l)
 unfolding tallied
 tally-leads [] t turn = sym (or-none (t .leads))
 tally-leads (n ∷ l) t turn =
-    tally-leads l (tallied t turn n) turn ∙ or-assoc (t .leads) (marksActive n && eqb (t .left) turn) (leadsFrom (t .left - 1) turn l)
+    tally-leads l (tallied t turn n) turn ∙ or-assoc (t .leads) (marksActive n && eqb (t .coming) turn) (leadsFrom (t .coming - 1) turn l)
 
 leads-late : (l : List ℕ) (left turn : ℕ) → left < turn → leadsFrom left turn l ≡ false
 leads-late [] left turn h = refl
@@ -331,7 +331,7 @@ table-done f leader patience s table ns is same =
 
 -- before the table's first replica
 abbrev tabled : ℕ → ℕ → State
-tabled f leader = withTally (withTurn (withSize (fresh .state) (replicas f)) (replicas f - leader)) (emptyTally (replicas f))
+tabled f leader = withTally (withTurn (withSize (freshState) (replicas f)) (replicas f - leader)) (emptyTally (replicas f))
 
 table-all : (f leader patience : ℕ) (ns : List ℕ) → f ≤ 3 → leader < replicas f
     → run ns (on Phase.Table (tabled f leader))
@@ -350,8 +350,8 @@ table-all f leader patience ns few below =
 pub judge-parses : (ns : List ℕ) → run ns fresh ≡ kitAnswer ns
 unfolding kitAnswer parse fresh feedOf atF atLeader atPatience
 judge-parses ns =
-    phase fresh (within 1 faultsMax) WrongSettings (λ n. moreOf Phase.Leader (withSize (fresh .state) (replicas n))) (λ n. refl) _ (λ k. ended) (λ f ns₁ t₁.
-    phase (on Phase.Leader (withSize (fresh .state) (replicas f))) (λ n. ltb n (replicas f)) WrongSettings _ (λ n. refl) _ (λ k. ended) (λ leader ns₂ t₂.
+    phase fresh (within 1 faultsMax) WrongSettings (λ n. moreOf Phase.Leader (withSize (freshState) (replicas n))) (λ n. refl) _ (λ k. ended) (λ f ns₁ t₁.
+    phase (on Phase.Leader (withSize (freshState) (replicas f))) (λ n. ltb n (replicas f)) WrongSettings _ (λ n. refl) _ (λ k. ended) (λ leader ns₂ t₂.
     phase _ (within 1 ticksMax) WrongSettings _ (λ n. refl) _ (λ k. ended) (λ patience ns₃ t₃.
     table-all f leader patience ns₃ (leb-true f faultsMax (and-r (leb 1 f) (leb f faultsMax) t₁)) (ltb-true leader (replicas f) t₂)) ns₂) ns₁) ns
     ∙ sym (answer-after (parse ns))
@@ -361,10 +361,10 @@ judge-parses ns =
 abbrev pub IsFault : KitAnswer → Type 0
 IsFault a = (a ≡ WrongSettings) ⊎ ((a ≡ WrongEvent) ⊎ (a ≡ Excess))
 
-pub record Refuses (t : Step) : Type 0 where
+pub record Refuses (t : Move) : Type 0 where
   pub only : (a : KitAnswer) → t .said ≡ Said.Refused a → IsFault a
 
-refuses-pick : (b : Bool) (x y : Step) → Refuses x → Refuses y → Refuses (pick b x y)
+refuses-pick : (b : Bool) (x y : Move) → Refuses x → Refuses y → Refuses (pick b x y)
 refuses-pick true x y f g = f
 refuses-pick false x y f g = g
 
@@ -406,7 +406,7 @@ refuses-in Phase.Patience s n = refuses-pick (within 1 ticksMax n) _ _ (refuses-
 refuses-in Phase.Table s n =
     let t = tallied (s .tally) (s .turn) n in
     refuses-pick (isTableNumber n) _ _
-    (refuses-pick (ltb 0 (t .left)) _ _ (refuses-more _ _) (refuses-pick (tallyRight (s .size) t) _ _ (refuses-more _ _) (refuses-settings _ _)))
+    (refuses-pick (ltb 0 (t .coming)) _ _ (refuses-more _ _) (refuses-pick (tallyRight (s .size) t) _ _ (refuses-more _ _) (refuses-settings _ _)))
     (refuses-settings _ _)
 refuses-in Phase.Count s n =
     refuses-pick (leb n eventsMax) _ _ (refuses-pick (eqb n 0) _ _ (refuses-done s) (refuses-more _ _)) (refuses-event _ _)
@@ -419,4 +419,4 @@ refuses-in Phase.Over s n = refuses-excess _ _
 
 pub refuses-fault : (j : Judge) (n : ℕ) (a : KitAnswer) → feedOf j n .said ≡ Said.Refused a → IsFault a
 unfolding feedOf
-refuses-fault j n = refuses-in (j .phase) (j .state) n .only
+refuses-fault j n = refuses-in (j .phase) (stateOf j) n .only

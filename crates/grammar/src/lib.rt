@@ -3,10 +3,10 @@ ghost use mathlib.Core.Path.{_≡_};
 ghost use mathlib.Core.Bool.{_||_, _&&_};
 ghost use mathlib.Core.List.{_∷_, []};
 ghost use lib.Dec.{eqb};
-ghost use Prim.Native.Nat.{_-_};
+ghost use Prim.Native.Nat.{_-_, _<_};
 ghost use Rattle.terms.specs.Kit.{marksActive, marksFaulty};
 ghost use Rattle.terms.specs.Lists.{pick};
-ghost use Rattle.grammar.specs.Automaton.{moreOf, doneOf, refusedOf, atF, atLeader, atPatience, atTable, tallied, tableDone, atCount, atGap, atKind, operandGoes, filing, atOperand, atRequest, completed, plusOne, feedOf, fresh};
+ghost use Rattle.grammar.specs.Automaton.{stepOf, judgeOf, stateOf, tallyOf, pendingOf, withTally, withPending, begun, kept, moreOf, doneOf, refusedOf, atF, atLeader, atPatience, atTable, tallied, tableDone, atCount, atGap, atKind, operandGoes, filing, atOperand, atRequest, completed, plusOne, feedOf, fresh};
 use operands::Operand;
 use terms::Kind;
 use terms::KindChoice;
@@ -40,40 +40,31 @@ pub enum Said {
     Refused(KitAnswer),
 }
 
-// The table so far: how many replicas are still to come, how many were active and faulty, whether the leader was active.
-pub struct Tally {
-    pub left: u32,
-    pub active: u32,
-    pub faulty: u32,
-    pub leads: bool,
-}
-
-// The event so far: its kind, how many operands were read, and the first three of them.
-pub struct Pending {
+// The judge: what a kit's numbers so far leave to know. Four fields of a byte and then numbers of four, so that it has no padding: it
+// goes by value before every number, and gaps in it would be copied too.
+pub struct Judge {
+    pub phase: Phase,
+    // The kind of the event at hand, and how many of its operands were read.
     pub kind: Kind,
-    pub at: usize,
-    pub first: u32,
-    pub second: u32,
-    pub third: u32,
-}
-
-// What a kit's numbers so far leave to know.
-pub struct State {
+    pub at: u8,
+    // Whether the leader was active.
+    pub leads: bool,
     // 2f+1
     pub size: u32,
     // How many replicas of the table are left at the leader's, itself counted.
     pub turn: u32,
-    pub tally: Tally,
+    // How many of its replicas are still to come, and how many were active and faulty.
+    pub coming: u32,
+    pub active: u32,
+    pub faulty: u32,
     // How many events are left, the one at hand counted.
     pub left: u32,
-    pub pending: Pending,
+    // The first three operands of the event at hand.
+    pub first: u32,
+    pub second: u32,
+    pub third: u32,
     // How many requests of kind 8 are left.
     pub requests: u32,
-}
-
-pub struct Judge {
-    pub phase: Phase,
-    pub state: State,
 }
 
 pub struct Step {
@@ -81,33 +72,53 @@ pub struct Step {
     pub judge: Judge,
 }
 
-fn more(phase: Phase, state: State) -> Step
-    ensures { λ r. ⌜ r ≡ moreOf phase state ⌝ }
+// The judge in another phase.
+fn on(phase: Phase, s: Judge) -> Judge
+    ensures { λ r. ⌜ r ≡ judgeOf phase (stateOf s) ⌝ }
 {
-    let judge = Judge { phase, state };
+    let kind = s.kind;
+    Judge {
+        phase,
+        kind,
+        at: s.at,
+        leads: s.leads,
+        size: s.size,
+        turn: s.turn,
+        coming: s.coming,
+        active: s.active,
+        faulty: s.faulty,
+        left: s.left,
+        first: s.first,
+        second: s.second,
+        third: s.third,
+        requests: s.requests,
+    }
+}
+
+fn more(phase: Phase, s: Judge) -> Step
+    ensures { λ r. ⌜ r ≡ stepOf (moreOf phase (stateOf s)) ⌝ }
+{
+    let judge = on(phase, s);
     Step {
         said: Said::More,
         judge,
     }
 }
 
-fn done(state: State) -> Step
-    ensures { λ r. ⌜ r ≡ doneOf state ⌝ }
+fn done(s: Judge) -> Step
+    ensures { λ r. ⌜ r ≡ stepOf (doneOf (stateOf s)) ⌝ }
 {
-    let judge = Judge {
-        phase: Phase::Over,
-        state,
-    };
+    let judge = on(Phase::Over, s);
     Step {
         said: Said::Done,
         judge,
     }
 }
 
-fn refused(answer: KitAnswer, phase: Phase, state: State) -> Step
-    ensures { λ r. ⌜ r ≡ refusedOf answer phase state ⌝ }
+fn refused(answer: KitAnswer, phase: Phase, s: Judge) -> Step
+    ensures { λ r. ⌜ r ≡ stepOf (refusedOf answer phase (stateOf s)) ⌝ }
 {
-    let judge = Judge { phase, state };
+    let judge = on(phase, s);
     Step {
         said: Said::Refused(answer),
         judge,
@@ -115,8 +126,8 @@ fn refused(answer: KitAnswer, phase: Phase, state: State) -> Step
 }
 
 // f is 1 to 3.
-fn at_f(s: State, n: u32) -> Step
-    ensures { λ r. ⌜ r ≡ atF s n ⌝ }
+fn at_f(s: Judge, n: u32) -> Step
+    ensures { λ r. ⌜ r ≡ stepOf (atF (stateOf s) n) ⌝ }
 {
     match n {
         1..=3 => {
@@ -129,8 +140,8 @@ fn at_f(s: State, n: u32) -> Step
 }
 
 // The leader is one of the replicas.
-fn at_leader(s: State, n: u32) -> Step
-    ensures { λ r. ⌜ r ≡ atLeader s n ⌝ }
+fn at_leader(s: Judge, n: u32) -> Step
+    ensures { λ r. ⌜ r ≡ stepOf (atLeader (stateOf s) n) ⌝ }
 {
     if n >= s.size {
         return refused(KitAnswer::WrongSettings, Phase::Leader, s);
@@ -141,19 +152,16 @@ fn at_leader(s: State, n: u32) -> Step
 }
 
 // The patience is 1 to 2^28-1 ticks.
-fn at_patience(s: State, n: u32) -> Step
-    ensures { λ r. ⌜ r ≡ atPatience s n ⌝ }
+fn at_patience(s: Judge, n: u32) -> Step
+    ensures { λ r. ⌜ r ≡ stepOf (atPatience (stateOf s) n) ⌝ }
 {
     match n {
         1..=0xfff_ffff => {
-            let empty = Tally {
-                left: s.size,
-                active: 0,
-                faulty: 0,
-                leads: false,
-            };
             let mut k = s;
-            k.tally = empty;
+            k.coming = s.size;
+            k.active = 0;
+            k.faulty = 0;
+            k.leads = false;
             more(Phase::Table, k)
         }
         _ => refused(KitAnswer::WrongSettings, Phase::Patience, s),
@@ -200,55 +208,51 @@ fn minus_one(x: u32) -> u32
 }
 
 // The table with one more replica.
-fn counted(t: Tally, turn: u32, n: u32) -> Tally
-    ensures { λ r. ⌜ r ≡ tallied t turn n ⌝ }
+fn counted(s: Judge, n: u32) -> Judge
+    ensures { λ r. ⌜ r ≡ judgeOf (s .phase) (withTally (stateOf s) (tallied (tallyOf s) (s .turn) n)) ⌝ }
 {
     let active = marks_active(n);
-    let leads = leading(t.leads, active, t.left == turn);
-    Tally {
-        left: minus_one(t.left),
-        active: plus_one(active, t.active),
-        faulty: plus_one(marks_faulty(n), t.faulty),
-        leads,
-    }
+    let mut k = s;
+    k.leads = leading(s.leads, active, s.coming == s.turn);
+    k.coming = minus_one(s.coming);
+    k.active = plus_one(active, s.active);
+    k.faulty = plus_one(marks_faulty(n), s.faulty);
+    k
 }
 
 // After the table's last replica: the leader is active, f+1 are active, at most f faulty.
-fn table_done(s: State) -> Step
-    ensures { λ r. ⌜ r ≡ tableDone s ⌝ }
+fn table_done(s: Judge) -> Step
+    ensures { λ r. ⌜ r ≡ stepOf (tableDone (stateOf s)) ⌝ }
 {
-    let t = s.tally;
-    if !t.leads {
+    if !s.leads {
         return refused(KitAnswer::WrongSettings, Phase::Table, s);
     }
-    if t.active != s.size / 2 + 1 {
+    if s.active != s.size / 2 + 1 {
         return refused(KitAnswer::WrongSettings, Phase::Table, s);
     }
-    if t.faulty > s.size / 2 {
+    if s.faulty > s.size / 2 {
         return refused(KitAnswer::WrongSettings, Phase::Table, s);
     }
     more(Phase::Count, s)
 }
 
 // A replica's number is 1 if active, plus 2 if faulty.
-fn at_table(s: State, n: u32) -> Step
-    ensures { λ r. ⌜ r ≡ atTable s n ⌝ }
+fn at_table(s: Judge, n: u32) -> Step
+    ensures { λ r. ⌜ r ≡ stepOf (atTable (stateOf s) n) ⌝ }
 {
     if n > 3 {
         return refused(KitAnswer::WrongSettings, Phase::Table, s);
     }
-    let t = counted(s.tally, s.turn, n);
-    let mut k = s;
-    k.tally = t;
-    if t.left > 0 {
+    let k = counted(s, n);
+    if k.coming > 0 {
         return more(Phase::Table, k);
     }
     table_done(k)
 }
 
 // At most 4,096 events.
-fn at_count(s: State, n: u32) -> Step
-    ensures { λ r. ⌜ r ≡ atCount s n ⌝ }
+fn at_count(s: Judge, n: u32) -> Step
+    ensures { λ r. ⌜ r ≡ stepOf (atCount (stateOf s) n) ⌝ }
 {
     if n > 4096 {
         return refused(KitAnswer::WrongEvent, Phase::Count, s);
@@ -262,8 +266,8 @@ fn at_count(s: State, n: u32) -> Step
 }
 
 // A gap is 0 to 2^28-1 ticks.
-fn at_gap(s: State, n: u32) -> Step
-    ensures { λ r. ⌜ r ≡ atGap s n ⌝ }
+fn at_gap(s: Judge, n: u32) -> Step
+    ensures { λ r. ⌜ r ≡ stepOf (atGap (stateOf s) n) ⌝ }
 {
     if n > 0xfff_ffff {
         return refused(KitAnswer::WrongEvent, Phase::Gap, s);
@@ -272,8 +276,8 @@ fn at_gap(s: State, n: u32) -> Step
 }
 
 // An event is complete.
-fn complete(s: State) -> Step
-    ensures { λ r. ⌜ r ≡ completed s ⌝ }
+fn complete(s: Judge) -> Step
+    ensures { λ r. ⌜ r ≡ stepOf (completed (stateOf s)) ⌝ }
 {
     if s.left <= 1 {
         return done(s);
@@ -284,12 +288,11 @@ fn complete(s: State) -> Step
 }
 
 // The operands are complete: kind 8 has its requests still to come.
-fn file(s: State) -> Step
-    ensures { λ r. ⌜ r ≡ filing s ⌝ }
+fn file(s: Judge) -> Step
+    ensures { λ r. ⌜ r ≡ stepOf (filing (stateOf s)) ⌝ }
 {
-    let p = s.pending;
-    let kind = p.kind;
-    let requests = operands::filed_by(kind, p.second, p.third);
+    let kind = s.kind;
+    let requests = operands::filed_by(kind, s.second, s.third);
     if requests == 0 {
         return complete(s);
     }
@@ -299,74 +302,92 @@ fn file(s: State) -> Step
 }
 
 // To the next operand, if there is one.
-fn operand_goes(s: State) -> Step
-    ensures { λ r. ⌜ r ≡ operandGoes s ⌝ }
+fn operand_goes(s: Judge) -> Step
+    ensures { λ r. ⌜ r ≡ stepOf (operandGoes (stateOf s)) ⌝ }
 {
-    let p = s.pending;
-    let kind = p.kind;
-    if p.at < operands::operand_count(kind) {
+    let kind = s.kind;
+    if s.at < operands::operand_count(kind) {
         return more(Phase::Operand, s);
     }
     file(s)
 }
 
+// An event of a kind, none of its operands read.
+fn begin(kind: Kind, s: Judge) -> Judge
+    ensures { λ r. ⌜ r ≡ judgeOf (s .phase) (withPending (stateOf s) (begun kind)) ⌝ }
+{
+    let phase = s.phase;
+    Judge {
+        phase,
+        kind,
+        at: 0,
+        leads: s.leads,
+        size: s.size,
+        turn: s.turn,
+        coming: s.coming,
+        active: s.active,
+        faulty: s.faulty,
+        left: s.left,
+        first: 0,
+        second: 0,
+        third: 0,
+        requests: s.requests,
+    }
+}
+
 // A kind is 1 to 8.
-fn at_kind(s: State, n: u32) -> Step
-    ensures { λ r. ⌜ r ≡ atKind s n ⌝ }
+fn at_kind(s: Judge, n: u32) -> Step
+    ensures { λ r. ⌜ r ≡ stepOf (atKind (stateOf s) n) ⌝ }
 {
     match terms::kind_of(n) {
         KindChoice::Refused => refused(KitAnswer::WrongEvent, Phase::Kind, s),
         KindChoice::Kind(kind) => {
-            let p = Pending {
-                kind,
-                at: 0,
-                first: 0,
-                second: 0,
-                third: 0,
-            };
-            let mut k = s;
-            k.pending = p;
+            let k = begin(kind, s);
             operand_goes(k)
         }
     }
 }
 
 // The operand that was kept for a place, or n if it is this place's.
-fn kept(at: usize, place: usize, old: u32, n: u32) -> u32
+fn kept(at: u8, place: u8, old: u32, n: u32) -> u32
     ensures { λ r. ⌜ r ≡ pick (eqb at place) n old ⌝ }
 {
     if at == place { n } else { old }
 }
 
-// An operand is what the table has at its place.
-fn at_operand(s: State, n: u32) -> Step
-    ensures { λ r. ⌜ r ≡ atOperand s n ⌝ }
+// One more operand of the event; the first three are kept.
+fn keep(s: Judge, n: u32) -> Judge
+    requires { ⌜ s .at < 255 ⌝ }
+    ensures { λ r. ⌜ r ≡ judgeOf (s .phase) (withPending (stateOf s) (kept (pendingOf s) n)) ⌝ }
 {
-    let p = s.pending;
-    let kind = p.kind;
-    let at = p.at;
+    let mut k = s;
+    k.at = s.at + 1;
+    k.first = kept(s.at, 0, s.first, n);
+    k.second = kept(s.at, 1, s.second, n);
+    k.third = kept(s.at, 2, s.third, n);
+    k
+}
+
+// An operand is what the table has at its place.
+fn at_operand(s: Judge, n: u32) -> Step
+    ensures { λ r. ⌜ r ≡ stepOf (atOperand (stateOf s) n) ⌝ }
+{
+    let kind = s.kind;
+    let at = s.at;
     if at >= operands::operand_count(kind) {
         return refused(KitAnswer::WrongEvent, Phase::Operand, s);
     }
     let operand = operands::operand_of(kind, at);
-    if !operands::operand_fits(operand, s.size, p.first, p.second, p.third, n) {
+    if !operands::operand_fits(operand, s.size, s.first, s.second, s.third, n) {
         return refused(KitAnswer::WrongEvent, Phase::Operand, s);
     }
-    let q = Pending {
-        kind,
-        at: at + 1,
-        first: kept(at, 0, p.first, n),
-        second: kept(at, 1, p.second, n),
-        third: kept(at, 2, p.third, n),
-    };
-    let mut k = s;
-    k.pending = q;
+    let k = keep(s, n);
     operand_goes(k)
 }
 
 // A request is not 0.
-fn at_request(s: State, n: u32) -> Step
-    ensures { λ r. ⌜ r ≡ atRequest s n ⌝ }
+fn at_request(s: Judge, n: u32) -> Step
+    ensures { λ r. ⌜ r ≡ stepOf (atRequest (stateOf s) n) ⌝ }
 {
     if n == 0 {
         return refused(KitAnswer::WrongEvent, Phase::Request, s);
@@ -384,30 +405,21 @@ impl Judge {
     pub fn new() -> Judge
         ensures { λ r. ⌜ r ≡ fresh ⌝ }
     {
-        let tally = Tally {
-            left: 0,
-            active: 0,
-            faulty: 0,
-            leads: false,
-        };
-        let pending = Pending {
+        Judge {
+            phase: Phase::F,
             kind: Kind::Idle,
             at: 0,
+            leads: false,
+            size: 0,
+            turn: 0,
+            coming: 0,
+            active: 0,
+            faulty: 0,
+            left: 0,
             first: 0,
             second: 0,
             third: 0,
-        };
-        let state = State {
-            size: 0,
-            turn: 0,
-            tally,
-            left: 0,
-            pending,
             requests: 0,
-        };
-        Judge {
-            phase: Phase::F,
-            state,
         }
     }
 
@@ -415,7 +427,7 @@ impl Judge {
     pub fn feed(self, n: u32) -> Step
         ensures { λ r. ⌜ r ≡ feedOf self n ⌝ }
     {
-        let s = self.state;
+        let s = self;
         let p = self.phase;
         match p {
             Phase::F => at_f(s, n),

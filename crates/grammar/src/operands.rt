@@ -41,7 +41,7 @@ pub enum Operand {
 }
 
 // How many operands a kind has, the requests of kind 8 apart.
-pub fn operand_count(kind: Kind) -> usize
+pub fn operand_count(kind: Kind) -> u8
     ensures { λ r. ⌜ r ≡ length (operandsOf kind) ⌝ }
 {
     match kind {
@@ -57,7 +57,7 @@ pub fn operand_count(kind: Kind) -> usize
 }
 
 // The operand at a place of a row of five.
-fn in_row(a: Operand, b: Operand, c: Operand, d: Operand, e: Operand, at: usize) -> Operand
+fn in_row(a: Operand, b: Operand, c: Operand, d: Operand, e: Operand, at: u8) -> Operand
     ensures { λ r. ⌜ r ≡ getD (a ∷ b ∷ c ∷ d ∷ e ∷ []) at Operand.Any ⌝ }
 {
     match at {
@@ -71,7 +71,7 @@ fn in_row(a: Operand, b: Operand, c: Operand, d: Operand, e: Operand, at: usize)
 }
 
 // The operand at a place of a kind: document 01's table, each row filled up to five.
-pub fn operand_of(kind: Kind, at: usize) -> Operand
+pub fn operand_of(kind: Kind, at: u8) -> Operand
     ensures { λ r. ⌜ r ≡ operandOf kind at ⌝ }
 {
     match kind {

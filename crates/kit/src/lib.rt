@@ -160,14 +160,15 @@ fn event_of_kind(bytes: &[u8], gap: u32, kind: Kind, at: usize, list: &mut [u32;
     ensures { λ r. ⌜ OfKind (now (bytes .entry)) gap kind at (now (list .entry)) (now (list .exit)) r ⌝ }
 {
     let mut ops: [u32; 5] = [0; 5];
-    let after = take_into(bytes, at, grammar::operands::operand_count(kind), &mut ops);
+    let count = grammar::operands::operand_count(kind) as usize;
+    let after = take_into(bytes, at, count, &mut ops);
     let event = grammar::operands::event_of(kind, ops[0], ops[1], ops[2], ops[3], ops[4]);
-    let count = grammar::operands::filed_by(kind, ops[1], ops[2]) as usize;
-    let next = requests(bytes, kind, after, count, list);
+    let filed = grammar::operands::filed_by(kind, ops[1], ops[2]) as usize;
+    let next = requests(bytes, kind, after, filed, list);
     Next {
         gap,
         event,
-        count,
+        count: filed,
         next,
     }
 }

@@ -10,6 +10,6 @@ unfolding atKind
 at-kind-spec =
     tie.close
     (tie.spec
-    (λ c κs. search needs) (λ c. search needs) (λ c κs. search needs) (λ c. search needs) (λ c κs. search needs)
+    (λ c κs. search needs) (λ c. search needs) (λ c κs. search needs) (λ c. search needs) (λ c κs. search needs) (λ c κs. search needs)
     (λ c. c .refused .ensures ∙ rw (← c .before .before .before .kind-of .ensures, c .before .enum-told .given .1))
-    (λ c. c .operand-goes .ensures ∙ rw (← c .before .before .before .before .kind-of .ensures, c .before .before .kind .given .1)))
+    (λ c. c .operand-goes .ensures ∙ rw (c .before .begin .ensures) (rw (← c .before .before .before .before .before .kind-of .ensures, c .before .before .before .kind .given .1))))

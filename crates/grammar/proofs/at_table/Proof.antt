@@ -1,9 +1,10 @@
 -- `at_table`: a number above 3 is refused; after the last replica the counts are judged. Assumes nothing.
-use mathlib.Core.Path.{_∙_}
+use mathlib.Core.Path.{ap, _∙_}
 use native.Mathlib.Omega.{arith}
 use borrow.Author.Tests.{lt-ltb, le-ltb, le-leb, lt-leb}
 use borrow.Author.Needs.{needs}
-use Rattle.grammar.specs.Automaton.{atTable}
+use Rattle.grammar.specs.Automaton.{tallyOf, tallied, atTable}
+use Rattle.grammar.specs.declared.Judge.{Judge}
 use Rattle.grammar.proofs.at_table.Statement.{statement}
 use Rattle.grammar.proofs.at_table.Tie as tie
 
@@ -15,6 +16,6 @@ at-table-spec =
     (λ c κs. search needs)
     (λ c. c .refused .ensures ∙ simp (lt-leb (c .before .before .args .n) 3 (omega arith)))
     (λ c κs. search needs) (λ c κs. search needs)
-    (λ c. c .more .ensures ∙ rw (← c .before .before .before .counted .ensures) (simp (le-leb (c .before .before .before .before .before .args .n) 3 (omega arith), lt-ltb 0 (c .before .before .before .counted .result .left) (omega arith))))
+    (λ c. let s = c .before .before .before .before .before .args in let k = c .before .before .before .counted in c .more .ensures ∙ rw (k .ensures) (simp (le-leb (s .n) 3 (omega arith), lt-ltb 0 (tallied (tallyOf (s .s)) (s .s .turn) (s .n) .coming) (omega (arith, ap (λ (j : Judge). j .coming) (k .ensures))))))
     (λ c κs. search needs)
-    (λ c. c .table-done .ensures ∙ rw (← c .before .before .before .counted .ensures) (simp (le-leb (c .before .before .before .before .before .args .n) 3 (omega arith), le-ltb 0 (c .before .before .before .counted .result .left) (omega arith)))))
+    (λ c. let s = c .before .before .before .before .before .args in let k = c .before .before .before .counted in c .table-done .ensures ∙ rw (k .ensures) (simp (le-leb (s .n) 3 (omega arith), le-ltb 0 (tallied (tallyOf (s .s)) (s .s .turn) (s .n) .coming) (omega (arith, ap (λ (j : Judge). j .coming) (k .ensures)))))))

@@ -13,6 +13,6 @@ operand-goes-spec =
     tie.close
     (tie.spec
     (λ c κs. search needs) (λ c κs. search needs)
-    (λ c. c .more .ensures ∙ rw (← c .before .before .before .operand-count .ensures) (simp (lt-ltb (c .before .before .before .before .before .args .s .pending .at) (c .before .before .before .operand-count .result) (omega arith))))
+    (λ c. c .more .ensures ∙ rw (← c .before .before .before .operand-count .ensures) (simp (lt-ltb (c .before .before .before .before .args .s .at) (c .before .before .before .operand-count .result) (omega arith))))
     (λ c κs. search needs)
-    (λ c. c .file .ensures ∙ rw (← c .before .before .before .operand-count .ensures) (simp (le-ltb (c .before .before .before .before .before .args .s .pending .at) (c .before .before .before .operand-count .result) (omega arith)))))
+    (λ c. c .file .ensures ∙ rw (← c .before .before .before .operand-count .ensures) (simp (le-ltb (c .before .before .before .before .args .s .at) (c .before .before .before .operand-count .result) (omega arith)))))

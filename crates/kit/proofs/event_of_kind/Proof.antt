@@ -9,6 +9,7 @@ event-of-kind-spec =
     tie.close
     (tie.spec
     (λ c κs. search needs) (λ c. search needs)
+    (λ c. search needs)
     (λ c κs. rw (c .before .operand-count .ensures) (operands-few (c .before .before .before .args .kind)))
     (λ c. search needs) (λ c. search needs) (λ c. search needs) (λ c. search needs) (λ c. search needs) (λ c κs. search needs)
     (λ c. search needs) (λ c. search needs) (λ c κs. search needs) (λ c. search needs)
