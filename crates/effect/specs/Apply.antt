@@ -1,6 +1,6 @@
 -- What a decision does to the record of the replica concerned and to the counters, on every record and every ledger. Laws: EffectLaws.
 -- Assumes nothing.
-use mathlib.Core.Bool.{Bool, false}
+use mathlib.Core.Bool.{Bool, true, false}
 use mathlib.Core.List.{List, []}
 use Prim.Native.Nat.{ℕ}
 use lib.ListN.{getD, take}
@@ -109,3 +109,19 @@ applyOn p Panic desk me roles table heads lists b = applied (haltOn p) b
 applyOn p (Refuse answer) desk me roles table heads lists b = applied p b
 applyOn p Idle desk me roles table heads lists b = applied p b
 applyOn p (File j k) desk me roles table heads lists b = applied p b
+
+-- whether a decision does anything to a record or a counter
+unfoldable pub movesOn : Decision → Bool
+movesOn (Submit request) = true
+movesOn (Issue replica name content) = true
+movesOn (Prepare sender value request) = true
+movesOn (Commit sender value) = true
+movesOn (KnownPair sender value) = true
+movesOn (NewPair sender value request mark) = true
+movesOn (Switch sender value) = true
+movesOn (Hand history) = true
+movesOn (Build j k) = true
+movesOn Panic = true
+movesOn (Refuse answer) = false
+movesOn Idle = false
+movesOn (File j k) = false

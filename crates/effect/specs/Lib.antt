@@ -4,3 +4,4 @@ pub mod Done
 pub mod EffectLaws
 pub mod DecisionLaws
 pub mod DoneLaws
+pub mod Still

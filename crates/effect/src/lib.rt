@@ -5,7 +5,7 @@ ghost use Rattle.terms.specs.Mark.{markOf};
 ghost use Rattle.rules.specs.Switching.{missing};
 ghost use Rattle.ledger.specs.Ledger.{book, issueOn};
 ghost use Rattle.effect.specs.Enter.{submissions, storeRequest, filings, fileOn, row, storeAll, addMissing, entered, enterOn};
-ghost use Rattle.effect.specs.Apply.{applied, actsIn, settledIn, requestAt, settleOn, leadOn, prepareOn, commitOn, pairOn, heldMark, switchOn, handOn, buildOn, applyOn};
+ghost use Rattle.effect.specs.Apply.{applied, actsIn, settledIn, requestAt, settleOn, leadOn, prepareOn, commitOn, pairOn, heldMark, switchOn, handOn, buildOn, applyOn, movesOn};
 use ledger::Issued;
 use ledger::Ledger;
 use replica::Replica;
@@ -374,6 +374,27 @@ fn build(p: Replica, h: usize, me: usize, ledger: &mut Ledger, issued: &mut Issu
     ledger::issue(ledger, issued, me, 0, Content::History(history));
     ledger::issue(ledger, issued, me, 1, Content::History(history));
     hand(p, history, me, ledger, issued)
+}
+
+// Whether a decision does anything to a record or a counter.
+pub fn moves(decision: Decision) -> bool
+    ensures { λ r. ⌜ r ≡ movesOn decision ⌝ }
+{
+    match decision {
+        Decision::Refuse(_) => false,
+        Decision::Idle => false,
+        Decision::File(_, _) => false,
+        Decision::Submit(_) => true,
+        Decision::Issue(_, _, _) => true,
+        Decision::Prepare(_, _, _) => true,
+        Decision::Commit(_, _) => true,
+        Decision::KnownPair(_, _) => true,
+        Decision::NewPair(_, _, _, _) => true,
+        Decision::Switch(_, _) => true,
+        Decision::Hand(_) => true,
+        Decision::Build(_, _) => true,
+        Decision::Panic => true,
+    }
 }
 
 // What a decision does to the record of the replica concerned, `me`, and to the counters. The desk is the one before the decision is

@@ -1,10 +1,11 @@
 -- Laws of Turn: a turn from what its steps promise, and one event more. Assumes nothing.
 use mathlib.Core.Path.{_≡_, refl, sym, ap, _∙_}
-use mathlib.Core.Bool.{not, _&&_}
+use mathlib.Core.Bool.{false, not, _&&_}
 use mathlib.Core.List.{List, map}
 use Prim.Native.Nat.{ℕ, zero, suc, _+_, _-_, _≤_, _<_}
 use native.Mathlib.Omega.{arith}
 use lib.ListN.{getD, set}
+use lib.Seq.{set-getD}
 use lib.Dec.{leb}
 use borrow.Author.Tests.{leb-false}
 use Rattle.terms.specs.Lists.{pick}
@@ -27,7 +28,8 @@ use Rattle.clock.specs.Clocked.{clockOn}
 use Rattle.judge.specs.Judge.{belowSeven, concernedIn, decideOn}
 use Rattle.judge.specs.JudgeLaws.{standingOf, judgeOn}
 use Rattle.effect.specs.Enter.{Entered, submissions, filings, enterOn}
-use Rattle.effect.specs.Apply.{Applied, applyOn}
+use Rattle.effect.specs.Apply.{Applied, applyOn, movesOn}
+use Rattle.effect.specs.Still.{still}
 use Rattle.effect.specs.Done.{doneOn}
 use Rattle.player.specs.Turn.{Stage, noReplica, turnOn, turnsFrom, stage}
 
@@ -55,6 +57,31 @@ module _ (bytes : List ℕ) (roles : Roles) (table : List ℕ) (k : ℕ) (s : St
       (n .lists) (a .counters .ledger) (a .counters .issued) list (e .next)
   unfolding turnOn clockOn judgeOn doneOn
   turn-made he hl hd hs hm hc ha hn hp hk = rw (hk, hp, ha, hn, hc, hm, hs, hd, hl, he)
+
+  -- the same of an event that moves nothing: the records and the counters stay
+  pub turn-still
+      : {e : Next} {list : List ℕ} {desk : Desk} {seats : List Replica} {me : ℕ} {d : Decision} {n : Entered} {c : Desk} {answer : ℕ}
+      → e ≡ nextIn bytes (s .at)
+      → list ≡ listAfter bytes (s .at) (s .list)
+      → desk ≡ tickOn (s .parts .desk) (e .gap) roles table (s .parts .requests) (s .parts .ticks) (s .parts .ledger) (s .parts .issued)
+      → seats ≡ pick (not (s .parts .desk .late) && desk .late) (map haltOn (s .parts .replicas)) (s .parts .replicas)
+      → me ≡ concernedIn (e .event) roles
+      → d
+      ≡ decideOn (e .event) (standingOf (getD seats me noReplica)) desk roles (getD seats me noReplica .noted) (getD seats me noReplica .marks)
+      (getD seats me noReplica .accepted) table (s .parts .requests) (s .parts .heads) (s .parts .lists) (s .parts .ledger) (s .parts .issued)
+      → answer ≡ answerNumber (answerOf d)
+      → n
+      ≡ enterOn d desk (getD seats me noReplica .noted) (getD seats me noReplica .count) list (e .count)
+      (submissions (s .parts .requests) (s .parts .ticks)) (filings (s .parts .heads) (s .parts .lists))
+      → movesOn d ≡ false
+      → c ≡ countedOn desk d
+      → turnOn bytes roles table k s
+      ≡ stage c seats (set (s .answers) k answer) (set (s .clocks) k (desk .clock)) (n .requests) (n .ticks) (n .heads) (n .lists)
+      (s .parts .ledger) (s .parts .issued) list (e .next)
+  turn-still {desk = desk} {seats = seats} {me = me} {d = d} {n = n} he hl hd hs hm hc ha hn hq hk =
+      turn-made he hl hd hs hm hc ha hn
+      (sym (still (getD seats me noReplica) desk me roles table (n .heads) (n .lists) (book (s .parts .ledger) (s .parts .issued)) d hq)) hk
+      ∙ rw (set-getD seats me noReplica)
 
 -- the record concerned is one of the seven
 seven : (n : ℕ) → belowSeven n < 7

@@ -98,19 +98,21 @@ pub fn play(
             heads,
             lists,
         );
-        let q = effect::apply(
-            p,
-            decision,
-            desk,
-            me,
-            roles,
-            table,
-            heads,
-            lists,
-            ledger,
-            issued,
-        );
-        replicas[me] = q;
+        if effect::moves(decision) {
+            let q = effect::apply(
+                p,
+                decision,
+                desk,
+                me,
+                roles,
+                table,
+                heads,
+                lists,
+                ledger,
+                issued,
+            );
+            replicas[me] = q;
+        }
         let counted = desk.counted(decision);
         desk = counted;
         at = e.next;

@@ -3,7 +3,7 @@ use borrow.Author.Needs.{needs}
 use native.Mathlib.Omega.{arith}
 use mathlib.Core.Path.{_≡_, refl, sym, ap, _∙_}
 use Prim.Native.Nat.{ℕ, suc, _+_, _-_, _≤_, _<_}
-use Rattle.player.specs.TurnLaws.{concerned-seven, turn-made, turns-next, turns-over, turns-start}
+use Rattle.player.specs.TurnLaws.{concerned-seven, turn-made, turn-still, turns-next, turns-over, turns-start}
 use Rattle.player.specs.Turn.{playOn, leftOf, turnsFrom, turnOn, stage}
 use mathlib.Core.Logic.{⊎-elim}
 use Rattle.terms.specs.Lists.{pick}
@@ -53,25 +53,28 @@ element-write-answers : tie.Need-element-write-answers Inv-loop μ-loop
 element-write-answers c = omega (arith, c .before .before .before .before .before .before .before .before .before .before .before .before .before .before .before .before .before .before .before .before .before .before .loop-test .taken, c .before .before .before .before .before .before .before .before .before .before .before .before .before .before .before .before .before .before .before .before .before .before .before .loop .inv .1)
 
 mul-replicas : tie.Need-mul-replicas Inv-loop μ-loop
-mul-replicas c = omega (arith, below (c .before .before .before .before .before .before .before .before .before .before .before .before .before .before .before .before .before .before .before .before .before .before .before .before .before))
+mul-replicas c = omega (arith, below (c .before .before .before .before .before .before .before .before .before .before .before .before .before .before .before .before .before .before .before .before .before .before .before .before .before .before .before))
 
 array-set-from-replicas : tie.Need-array-set-from-replicas Inv-loop μ-loop
-array-set-from-replicas c = below (c .before .before .before .before .before .before .before .before .before .before .before .before .before .before .before .before .before .before .before .before .before .before .before .before .before)
+array-set-from-replicas c = below (c .before .before .before .before .before .before .before .before .before .before .before .before .before .before .before .before .before .before .before .before .before .before .before .before .before .before .before)
 
 add-k : tie.Need-add-k Inv-loop μ-loop
-add-k c = omega (arith, c .before .before .before .before .before .before .before .before .before .before .before .before .before .before .before .before .before .before .before .before .before .before .before .before .before .before .before .before .before .before .before .before .before .before .before .before .loop-test .taken, c .before .before .before .before .before .before .before .before .before .before .before .before .before .before .before .before .before .before .before .before .before .before .before .before .before .before .before .before .before .before .before .before .before .before .before .before .before .loop .inv .1)
+add-k c = omega (arith, c .before .before .before .before .before .before .before .before .before .before .before .before .before .before .before .before .before .before .before .before .before .before .before .before .before .before .before .before .before .before .before .before .before .loop-test .taken, c .before .before .before .before .before .before .before .before .before .before .before .before .before .before .before .before .before .before .before .before .before .before .before .before .before .before .before .before .before .before .before .before .before .before .loop .inv .1)
 
 loop-less : tie.Need-loop-less Inv-loop μ-loop
-loop-less c = omega (arith, c .before .before .before .before .before .before .before .before .before .before .before .before .before .before .before .before .before .before .before .before .before .before .before .before .before .before .before .before .before .before .before .before .before .before .before .before .loop-test .taken)
+loop-less c = omega (arith, c .before .before .before .before .before .before .before .before .before .before .before .before .before .before .before .before .before .before .before .before .before .before .before .before .before .before .before .before .before .before .before .before .before .loop-test .taken)
 
 loop-again : tie.Need-loop-again Inv-loop μ-loop
 loop-again c =
-    let s = c .before .before .before .before .before .before .before .before .before .before .before .before .before .before .before .before .before .before .before .before .before .before .before .before .before .before .before .before .before .before .before .before .before .before .before .before .before .loop in (
-      omega (arith, c .before .before .before .before .before .before .before .before .before .before .before .before .before .before .before .before .before .before .before .before .before .before .before .before .before .before .before .before .before .before .before .before .before .before .before .before .loop-test .taken),
+    let s = c .before .before .before .before .before .before .before .before .before .before .before .before .before .before .before .before .before .before .before .before .before .before .before .before .before .before .before .before .before .before .before .before .before .before .loop in (
+      omega (arith, c .before .before .before .before .before .before .before .before .before .before .before .before .before .before .before .before .before .before .before .before .before .before .before .before .before .before .before .before .before .before .before .before .before .loop-test .taken),
       s .inv .1,
-      s .inv .2 ∙ ap leftOf (turns-next _ _ _ _ _ _ (c .before .before .before .before .before .before .before .before .before .before .before .before .before .before .before .before .before .before .before .before .before .before .before .before .before .before .before .before .before .before .before .before .before .before .before .before .loop-test .taken) ∙ ap (turnsFrom _ _ _ _ _)
-          (turn-made _ _ _ _ _ (c .before .before .before .before .before .before .before .before .before .before .before .before .before .before .before .before .before .before .before .before .before .before .before .before .before .before .before .before .before .before .before .before .before .before .next-event .ensures .answer) (c .before .before .before .before .before .before .before .before .before .before .before .before .before .before .before .before .before .before .before .before .before .before .before .before .before .before .before .before .before .before .before .before .before .before .next-event .ensures .filed) (c .before .before .before .before .before .before .before .before .before .before .before .before .before .before .before .before .before .before .before .before .before .before .before .before .before .before .before .before .before .tick .ensures) (seated (c .before .before .before .before .before .before .before .before .before .before .before .before .before .before .before .before .before .before .before .before .before .before .before .before .before .before .before)) (c .before .before .before .before .before .before .before .before .before .before .before .before .before .before .before .before .before .before .before .before .before .before .before .before .before .before .concerned .ensures)
-          (c .before .before .before .before .before .before .before .before .before .before .before .before .before .before .before .decide .ensures) (c .before .before .before .before .before .before .before .before .before .before .before .before .before .before .answer-of .ensures) (c .before .before .before .before .before .before .enter .ensures) (c .before .apply .ensures) (c .counted .ensures))),
+      s .inv .2 ∙ ap leftOf (turns-next _ _ _ _ _ _ (c .before .before .before .before .before .before .before .before .before .before .before .before .before .before .before .before .before .before .before .before .before .before .before .before .before .before .before .before .before .before .before .before .before .loop-test .taken) ∙ ap (turnsFrom _ _ _ _ _)
+          (let n = c .before .before .before in let a = n .before .before .before .before .before .before .before .before in let d = a .before in let m = d .before .before .before .before .before .before .before .before .before .before .before in let z = m .before in let t = z .before .before in let e = t .before .before .before .before .before in
+          ⊎-elim
+          (λ w. turn-made _ _ _ _ _ (e .next-event .ensures .answer) (e .next-event .ensures .filed) (t .tick .ensures) (seated z) (m .concerned .ensures) (d .decide .ensures) (a .answer-of .ensures) (n .enter .ensures) (w .5 .ensures) (c .counted .ensures) ∙ rw (w .6, w .7, w .8))
+          (λ w. turn-still _ _ _ _ _ (e .next-event .ensures .answer) (e .next-event .ensures .filed) (t .tick .ensures) (seated z) (m .concerned .ensures) (d .decide .ensures) (a .answer-of .ensures) (n .enter .ensures) (sym (c .before .before .moves .ensures) ∙ w .0 .left) (c .counted .ensures) ∙ rw (w .1, w .2, w .3))
+          (c .before .if2 .came))),
     )
 
 returns : tie.Need-returns Inv-loop μ-loop
@@ -82,5 +85,5 @@ play-spec =
     tie.close
     (tie.spec Inv-loop μ-loop (λ c κs. search needs) (λ c κs. search needs) loop-holds (λ c κs. search needs) (λ c κs. search needs)
     (λ c κs. search needs) (λ c κs. search needs) mul-clocks element-write-clocks (λ c κs. search needs) mul-p array-copy-out-p
-    (λ c κs. search needs) (λ c κs. search needs) mul-answers element-write-answers (λ c κs. search needs) (λ c κs. search needs)
+    (λ c κs. search needs) (λ c κs. search needs) mul-answers element-write-answers (λ c κs. search needs) (λ c κs. search needs) (λ c κs. search needs)
     mul-replicas array-set-from-replicas (λ c κs. search needs) add-k loop-less loop-again returns)
