@@ -33,54 +33,27 @@ use Rattle.effect.specs.Still.{still}
 use Rattle.effect.specs.Done.{doneOn}
 use Rattle.player.specs.Turn.{Stage, noReplica, turnOn, turnsFrom, stage}
 
-module _ (bytes : List ℕ) (roles : Roles) (table : List ℕ) (k : ℕ) (s : Stage) where
-  -- each step's result is what its definition says of the results before it
+-- a turn whose steps' results are what their definitions say of the results before them
+module _ (bytes : List ℕ) (roles : Roles) (table : List ℕ) (k : ℕ) (s : Stage) {e : Next} {list : List ℕ} {desk : Desk} {seats : List Replica} {me : ℕ} {d : Decision} {answer : ℕ} {n : Entered} {c : Desk} (he : e ≡ nextIn bytes (s .at)) (hl : list ≡ listAfter bytes (s .at) (s .list)) (hd : desk ≡ tickOn (s .parts .desk) (e .gap) roles table (s .parts .requests) (s .parts .ticks) (s .parts .ledger) (s .parts .issued)) (hs : seats ≡ pick (not (s .parts .desk .late) && desk .late) (map haltOn (s .parts .replicas)) (s .parts .replicas)) (hm : me ≡ concernedIn (e .event) roles) (hc : d ≡ decideOn (e .event) (standingOf (getD seats me noReplica)) desk roles (getD seats me noReplica .noted) (getD seats me noReplica .marks) (getD seats me noReplica .accepted) table (s .parts .requests) (s .parts .heads) (s .parts .lists) (s .parts .ledger) (s .parts .issued)) (ha : answer ≡ answerNumber (answerOf d)) (hn : n ≡ enterOn d desk (getD seats me noReplica .noted) (getD seats me noReplica .count) list (e .count) (submissions (s .parts .requests) (s .parts .ticks)) (filings (s .parts .heads) (s .parts .lists))) (hk : c ≡ countedOn desk d) where
   pub turn-made
-      : {e : Next} {list : List ℕ} {desk : Desk} {seats : List Replica} {me : ℕ} {d : Decision} {n : Entered} {a : Applied} {c : Desk} {answer : ℕ}
-      → e ≡ nextIn bytes (s .at)
-      → list ≡ listAfter bytes (s .at) (s .list)
-      → desk ≡ tickOn (s .parts .desk) (e .gap) roles table (s .parts .requests) (s .parts .ticks) (s .parts .ledger) (s .parts .issued)
-      → seats ≡ pick (not (s .parts .desk .late) && desk .late) (map haltOn (s .parts .replicas)) (s .parts .replicas)
-      → me ≡ concernedIn (e .event) roles
-      → d
-      ≡ decideOn (e .event) (standingOf (getD seats me noReplica)) desk roles (getD seats me noReplica .noted) (getD seats me noReplica .marks)
-      (getD seats me noReplica .accepted) table (s .parts .requests) (s .parts .heads) (s .parts .lists) (s .parts .ledger) (s .parts .issued)
-      → answer ≡ answerNumber (answerOf d)
-      → n
-      ≡ enterOn d desk (getD seats me noReplica .noted) (getD seats me noReplica .count) list (e .count)
-      (submissions (s .parts .requests) (s .parts .ticks)) (filings (s .parts .heads) (s .parts .lists))
+      : {a : Applied}
       → a
       ≡ applyOn (getD seats me noReplica) d desk me roles table (n .heads) (n .lists) (book (s .parts .ledger) (s .parts .issued))
-      → c ≡ countedOn desk d
       → turnOn bytes roles table k s
       ≡ stage c (set seats me (a .replica)) (set (s .answers) k answer) (set (s .clocks) k (desk .clock)) (n .requests) (n .ticks) (n .heads)
       (n .lists) (a .counters .ledger) (a .counters .issued) list (e .next)
   unfolding turnOn clockOn judgeOn doneOn
-  turn-made he hl hd hs hm hc ha hn hp hk = rw (hk, hp, ha, hn, hc, hm, hs, hd, hl, he)
+  turn-made hp = rw (hk, hp, ha, hn, hc, hm, hs, hd, hl, he)
 
-  -- the same of an event that moves nothing: the records and the counters stay
+  -- an event that moves nothing: the records and the counters stay
   pub turn-still
-      : {e : Next} {list : List ℕ} {desk : Desk} {seats : List Replica} {me : ℕ} {d : Decision} {n : Entered} {c : Desk} {answer : ℕ}
-      → e ≡ nextIn bytes (s .at)
-      → list ≡ listAfter bytes (s .at) (s .list)
-      → desk ≡ tickOn (s .parts .desk) (e .gap) roles table (s .parts .requests) (s .parts .ticks) (s .parts .ledger) (s .parts .issued)
-      → seats ≡ pick (not (s .parts .desk .late) && desk .late) (map haltOn (s .parts .replicas)) (s .parts .replicas)
-      → me ≡ concernedIn (e .event) roles
-      → d
-      ≡ decideOn (e .event) (standingOf (getD seats me noReplica)) desk roles (getD seats me noReplica .noted) (getD seats me noReplica .marks)
-      (getD seats me noReplica .accepted) table (s .parts .requests) (s .parts .heads) (s .parts .lists) (s .parts .ledger) (s .parts .issued)
-      → answer ≡ answerNumber (answerOf d)
-      → n
-      ≡ enterOn d desk (getD seats me noReplica .noted) (getD seats me noReplica .count) list (e .count)
-      (submissions (s .parts .requests) (s .parts .ticks)) (filings (s .parts .heads) (s .parts .lists))
-      → movesOn d ≡ false
-      → c ≡ countedOn desk d
+      : movesOn d ≡ false
       → turnOn bytes roles table k s
       ≡ stage c seats (set (s .answers) k answer) (set (s .clocks) k (desk .clock)) (n .requests) (n .ticks) (n .heads) (n .lists)
       (s .parts .ledger) (s .parts .issued) list (e .next)
-  turn-still {desk = desk} {seats = seats} {me = me} {d = d} {n = n} he hl hd hs hm hc ha hn hq hk =
-      turn-made he hl hd hs hm hc ha hn
-      (sym (still (getD seats me noReplica) desk me roles table (n .heads) (n .lists) (book (s .parts .ledger) (s .parts .issued)) d hq)) hk
+  turn-still hq =
+      turn-made
+      (sym (still (getD seats me noReplica) desk me roles table (n .heads) (n .lists) (book (s .parts .ledger) (s .parts .issued)) d hq))
       ∙ rw (set-getD seats me noReplica)
 
 -- the record concerned is one of the seven

@@ -72,8 +72,8 @@ loop-again c =
       s .inv .2 ∙ ap leftOf (turns-next _ _ _ _ _ _ (c .before .before .before .before .before .before .before .before .before .before .before .before .before .before .before .before .before .before .before .before .before .before .before .before .before .before .before .before .before .before .before .before .before .loop-test .taken) ∙ ap (turnsFrom _ _ _ _ _)
           (let n = c .before .before .before in let a = n .before .before .before .before .before .before .before .before in let d = a .before in let m = d .before .before .before .before .before .before .before .before .before .before .before in let z = m .before in let t = z .before .before in let e = t .before .before .before .before .before in
           ⊎-elim
-          (λ w. turn-made _ _ _ _ _ (e .next-event .ensures .answer) (e .next-event .ensures .filed) (t .tick .ensures) (seated z) (m .concerned .ensures) (d .decide .ensures) (a .answer-of .ensures) (n .enter .ensures) (w .5 .ensures) (c .counted .ensures) ∙ rw (w .6, w .7, w .8))
-          (λ w. turn-still _ _ _ _ _ (e .next-event .ensures .answer) (e .next-event .ensures .filed) (t .tick .ensures) (seated z) (m .concerned .ensures) (d .decide .ensures) (a .answer-of .ensures) (n .enter .ensures) (sym (c .before .before .moves .ensures) ∙ w .0 .left) (c .counted .ensures) ∙ rw (w .1, w .2, w .3))
+          (λ w. turn-made _ _ _ _ _ (e .next-event .ensures .answer) (e .next-event .ensures .filed) (t .tick .ensures) (seated z) (m .concerned .ensures) (d .decide .ensures) (a .answer-of .ensures) (n .enter .ensures) (c .counted .ensures) (w .5 .ensures) ∙ rw (w .6, w .7, w .8))
+          (λ w. turn-still _ _ _ _ _ (e .next-event .ensures .answer) (e .next-event .ensures .filed) (t .tick .ensures) (seated z) (m .concerned .ensures) (d .decide .ensures) (a .answer-of .ensures) (n .enter .ensures) (c .counted .ensures) (sym (c .before .before .moves .ensures) ∙ w .0 .left) ∙ rw (w .1, w .2, w .3))
           (c .before .if2 .came))),
     )
 
