@@ -2,18 +2,16 @@
 -- are below 7, and so are an event's replicas; its names are below 3. Assumes nothing.
 use mathlib.Core.Path.{_≡_, refl}
 use mathlib.Core.Bool.{Bool, true, false}
-use mathlib.Core.Option.{some}
 use mathlib.Core.List.{List, [], _∷_}
 use Prim.Native.Nat.{ℕ, zero, suc, _≤_, _<_}
 use native.Mathlib.Omega.{arith}
 use lib.ListN.{length, getD}
 use Rattle.terms.specs.Limits.{replicas, requestsMax}
-use Rattle.terms.specs.Lists.{nth}
 use Rattle.terms.specs.ListLaws.{no-way}
-use Rattle.terms.specs.Kit.{Kit, GoodKit, Entry, GoodEvent, marksActive, marksFaulty}
+use Rattle.terms.specs.Kit.{Kit, GoodKit, GoodEvent, marksActive}
 use Rattle.terms.specs.declared.Event.{Event}
 use Rattle.terms.specs.declared.Event.the-variants.{Submit, Issue, Deliver, Hand, Panic, Idle, Build, File}
-use Rattle.rules.specs.Table.{isActive, isMarkedFaulty, switchLeader}
+use Rattle.rules.specs.Table.{isActive, switchLeader}
 use Rattle.rules.specs.TableLaws.{roles}
 use Rattle.room.specs.Decide.{concerned}
 
@@ -48,13 +46,6 @@ module _ {kit : Kit} (good : GoodKit kit) where
   unfolding isActive
   active-below x e = marked-below (kit .table) marksActive refl x e
 
-  pub active-max : (x : ℕ) → isActive kit x ≡ true → x < 7
-  active-max x e = omega (arith, active-below x e, size-max)
-
-  pub faulty-max : (x : ℕ) → isMarkedFaulty kit x ≡ true → x < 7
-  unfolding isMarkedFaulty
-  faulty-max x e = omega (arith, marked-below (kit .table) marksFaulty refl x e, size-max)
-
   pub switch-below : switchLeader kit < length (kit .table)
   switch-below = active-below (switchLeader kit) (roles kit good .switch-active)
 
@@ -82,13 +73,6 @@ module _ {kit : Kit} (good : GoodKit kit) where
   concerned-operands Idle l o = omega arith
   concerned-operands Build l o = switch-max
   concerned-operands (File j k) l o = omega arith
-
-  -- of event n of the kit: its operands, and the replica that it concerns
-  pub entry-operands : (n : ℕ) (e : Entry) → nth (kit .events) n ≡ some e → Operands (e .event) (e .requests)
-  entry-operands n e h = operands (e .event) (e .requests) (good .events-good n e h .event)
-
-  pub entry-concerned : (n : ℕ) (e : Entry) → nth (kit .events) n ≡ some e → concerned kit (e .event) < 7
-  entry-concerned n e h = concerned-operands (e .event) (e .requests) (entry-operands n e h)
 
 -- the replica that a good event concerns is one of the seven
 pub concerned-below : (kit : Kit) (event : Event) (list : List ℕ) → GoodKit kit → GoodEvent (replicas (kit .f)) event list → concerned kit event < 7

@@ -57,10 +57,6 @@ module _ {ℓ} {A : Type ℓ} where
   unfoldable pub grid : (ℕ → ℕ → A) → List A
   grid g = tab 21 (λ i. g (i / 3) (i % 3))
 
-  pub length-grid : (g : ℕ → ℕ → A) → length (grid g) ≡ 21
-  unfolding grid
-  length-grid g = length-tab 21 (λ i. g (i / 3) (i % 3))
-
   pub getD-grid : (g : ℕ → ℕ → A) (x m : ℕ) (d : A) → x < 7 → m < 3 → getD (grid g) (3 * x + m) d ≡ g x m
   unfolding grid
   getD-grid g x m d hx hm =
