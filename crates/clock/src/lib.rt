@@ -1,7 +1,7 @@
 // The clock comes first in every event: the gap is added, and lateness is tested once, before the event. Here is what that does to the
 // desk, whether a request is answered, and how every running replica halts at the late tick.
 ghost use mathlib.Core.Path.{_≡_};
-ghost use mathlib.Core.Bool.{Bool, not, _&&_};
+ghost use mathlib.Core.Bool.{not, _&&_};
 ghost use mathlib.Core.List.{map};
 ghost use Rattle.terms.specs.declared.Content.the-variants.{Update};
 ghost use Rattle.rules.specs.Reading.{isContent, secondOf};

@@ -2,7 +2,7 @@
 // start: a place is a content's kind, a and b, and 0 0 0 is empty. `issued` says how many places of each are taken. Nothing above this
 // crate knows the layout.
 ghost use mathlib.Core.Path.{_≡_};
-ghost use Rattle.ledger.specs.Ledger.{placeIndex, lookUp, totalOf, Book, book, issueOn};
+ghost use Rattle.ledger.specs.Ledger.{placeIndex, lookUp, totalOf, book, issueOn};
 use terms::Content;
 use terms::ContentChoice;
 

@@ -1,8 +1,8 @@
 -- Demand 2, stated: for every n, the player's loop over an accepted kit's bytes has after the first n events the rules' `after kit n` laid out,
 -- padding included, with the rules' clocks and answers. Assumes nothing.
-use mathlib.Core.Path.{_≡_, refl, sym, ap, _∙_}
+use mathlib.Core.Path.{_≡_, _∙_}
 use mathlib.Core.List.{List, [], _∷_}
-use Prim.Native.Nat.{ℕ, zero, suc, _+_, _≤_, _<_}
+use Prim.Native.Nat.{ℕ, zero, suc, _+_, _≤_}
 use native.Mathlib.Omega.{arith}
 use native.Mathlib.Numerals.{add-one}
 use lib.ListN.{length, replicate}
@@ -21,7 +21,7 @@ use Rattle.kit.specs.Reader.{settingsIn}
 use Rattle.kit.specs.Spelling.{Spells}
 use Rattle.kit.specs.Cursor.{first-cursor}
 use Rattle.clock.specs.KnownLaws.{known-fresh}
-use Rattle.player.specs.Turn.{Stage, stage, turnsFrom}
+use Rattle.player.specs.Turn.{Stage, turnsFrom}
 use Rattle.player.specs.Shows.{Shows, one-turn}
 
 -- the fresh room, laid out: everything is 0, and the replicas are those of the table

@@ -2,18 +2,17 @@
 -- answer is the rules'. Assumes nothing.
 use mathlib.Core.Path.{_≡_, refl, sym, ap, _∙_}
 use mathlib.Core.Bool.{Bool, true, false, not, _&&_, _||_}
-use mathlib.Core.Option.{Option, none, some}
-use mathlib.Core.List.{List, []}
-use Prim.Native.Nat.{ℕ, zero, suc, _+_, _≤_, _<_}
+use mathlib.Core.Option.{Option, some}
+use mathlib.Core.List.{List}
+use Prim.Native.Nat.{ℕ, suc, _≤_, _<_}
 use native.Mathlib.Omega.{arith}
-use native.Mathlib.Numerals.{add-one}
-use lib.ListN.{length, getD, set, replicate, length-set, length-replicate}
+use lib.ListN.{length, getD, set, length-set}
 use lib.Seq.{getD-set-same, getD-set-other}
 use lib.Dec.{eqb, leb}
 use borrow.Author.Tests.{eqb-true, eqb-false}
 use Rattle.terms.specs.Limits.{eventsMax, requestsMax, placesMax, replicas}
 use Rattle.terms.specs.Lists.{pick, nth, holds, isSome}
-use Rattle.terms.specs.ListLaws.{split, no-way, nth-in, nth-lt}
+use Rattle.terms.specs.ListLaws.{split, no-way, nth-lt}
 use Rattle.terms.specs.Padding.{pad}
 use Rattle.terms.specs.Kit.{Kit, Entry, GoodKit, GoodEvent}
 use Rattle.terms.specs.Numbers.{answerNumber}
@@ -34,7 +33,7 @@ use Rattle.rules.specs.laws.Time.{step-clock}
 use Rattle.rules.specs.laws.Refused.{tick-ticked}
 use Rattle.replica.specs.declared.Replica.{Replica}
 use Rattle.replica.specs.RecordLayout.{layReplica}
-use Rattle.room.specs.Decide.{refuseIf, decide, decideSubmit, decideIssue, decideAg, decideUp, decideSw, decideDeliver, decideHand, decidePanic, decideBuild, concerned, carryOut, answerOf}
+use Rattle.room.specs.Decide.{decide, decideSubmit, decideIssue, decideAg, decideUp, decideSw, decideDeliver, decideHand, decidePanic, decideBuild, concerned, carryOut, answerOf}
 use Rattle.room.specs.DecideLaws.{event-done}
 use Rattle.room.specs.Layout.{Parts, layRoles, layTable, layDesk, layRoom}
 use Rattle.room.specs.LayoutLaws.{replica-laid}
@@ -52,12 +51,11 @@ use Rattle.clock.specs.Clocked.{clockOn}
 use Rattle.clock.specs.Known.{Known}
 use Rattle.clock.specs.KnownLaws.{known-grows}
 use Rattle.clock.specs.ClockLaws.{knownAfter, known-after, clock-laid}
-use Rattle.judge.specs.Judge.{concernedIn}
-use Rattle.judge.specs.JudgeLaws.{judgeOn, concerned-laid, judge-laid}
+use Rattle.judge.specs.JudgeLaws.{concerned-laid, judge-laid}
 use Rattle.effect.specs.Enter.{Submissions, Filings, enterOn}
 use Rattle.effect.specs.Done.{doneOn}
 use Rattle.effect.specs.DoneLaws.{done-laid}
-use Rattle.player.specs.Turn.{Stage, noReplica, ticking, deciding, doing, turnOn, turnsFrom}
+use Rattle.player.specs.Turn.{Stage, noReplica, turnOn}
 
 -- ---- only an event 8 looks at the list beside it
 

@@ -1,7 +1,7 @@
 -- The lines of a play, from the parts that the player keeps, whatever is in them. Laws: PlayText, where the parts are a room's of the
 -- rules. Assumes nothing.
-use mathlib.Core.Bool.{Bool, true, false}
-use mathlib.Core.List.{List, [], _∷_, _++_}
+use mathlib.Core.Bool.{Bool, false}
+use mathlib.Core.List.{List, [], _++_}
 use Prim.Native.Nat.{ℕ, suc, min}
 use lib.ListN.{getD, take}
 use lib.Dec.{leb, ltb}

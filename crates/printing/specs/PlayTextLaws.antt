@@ -2,19 +2,19 @@
 -- rules'. Assumes nothing.
 use mathlib.Core.Path.{_≡_, refl, _∙_}
 use mathlib.Core.Option.{Option, none, some}
-use mathlib.Core.List.{List, [], _++_}
-use Prim.Native.Nat.{ℕ, zero, suc, _+_, _≤_, _<_, min}
+use mathlib.Core.List.{List, []}
+use Prim.Native.Nat.{ℕ, suc, _≤_, _<_, min}
 use native.Mathlib.Omega.{arith}
 use lib.ListN.{length, getD, take}
 use lib.Dec.{ltb}
 use borrow.Author.Tests.{ltb-true, lt-ltb, lt-leb}
 use Rattle.terms.specs.Lists.{pick, nth, isSome}
 use Rattle.terms.specs.ListLaws.{split, nth-lt}
-use Rattle.terms.specs.Kit.{Kit, GoodKit}
+use Rattle.terms.specs.Kit.{Kit}
 use Rattle.terms.specs.Padding.{take-pad, take-pad-le}
 use Rattle.terms.specs.declared.Condition.{Condition}
 use Rattle.terms.specs.declared.Condition.the-variants.{Running, Halted, Closed, Faulty}
-use Rattle.rules.specs.Table.{ag, up, isActive}
+use Rattle.rules.specs.Table.{ag, up}
 use Rattle.rules.specs.Room.{Room, Filing}
 use Rattle.rules.specs.Room as Rules
 use Rattle.rules.specs.Reading.{settledCount, settledNoted, listOf, heldList, settled}
@@ -28,9 +28,9 @@ use Rattle.room.specs.Layout.{Parts, layRoles, layTable, layHeads, layLists, la
 use Rattle.room.specs.LayoutLaws.{head-laid, list-laid, replica-laid}
 use Rattle.room.specs.Bounds.{Bounds}
 use Rattle.room.specs.GoodLaws.{size-max, leader-max}
-use Rattle.printing.specs.Lines.{eventLine, linesFrom}
+use Rattle.printing.specs.Lines.{linesFrom}
 use Rattle.printing.specs.LinesLaws.{lines-ext, take-least}
-use Rattle.printing.specs.PlayLines.{eventAt, eventLines, actsIn, settledIn, notedShown, heldShown, lineIn, seatLine, seatLines, playLines}
+use Rattle.printing.specs.PlayLines.{eventLines, actsIn, settledIn, notedShown, heldShown, lineIn, seatLine, seatLines, playLines}
 use Rattle.printing.specs.PlayText.{numberSaid, eventSaid, replicaSaid, textAfter}
 
 -- the first so many of the requests that are noted

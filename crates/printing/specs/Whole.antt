@@ -1,7 +1,7 @@
 -- Laws of a text in a lent buffer: it ends within the buffer, and one that ends before the buffer's end is whole, so that nothing is lost
 -- unseen. Assumes nothing.
 use mathlib.Core.Path.{_≡_, sym, ap, _∙_}
-use mathlib.Core.List.{List, [], _∷_, _++_}
+use mathlib.Core.List.{List, [], _∷_}
 use Prim.Native.Nat.{ℕ, suc, _+_, _≤_, _<_}
 use native.Mathlib.Nat.{add-zero}
 use native.Mathlib.Numerals.{add-one}

@@ -1,7 +1,6 @@
 // The printed play: one line for each event, one for each replica, and the late tick; and the line of a refused kit. What no longer fits
 // into the lent buffer is left out, and the place that is given back is then the buffer's end: a text that ends before it is whole.
 ghost use mathlib.Core.Path.{_≡_};
-ghost use mathlib.Core.Bool.{Bool};
 ghost use mathlib.Core.List.{[]};
 ghost use lib.ListN.{take};
 ghost use Prim.Native.Nat.{min};

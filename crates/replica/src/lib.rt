@@ -1,7 +1,6 @@
 // A replica's record: a fixed-size value, with the steps that change it. Each step gives the record anew; a step that has no room leaves
 // it as it is.
 ghost use mathlib.Core.Path.{_≡_};
-ghost use mathlib.Core.Bool.{Bool};
 ghost use lib.ListN.{take};
 ghost use Prim.Native.Nat.{_+_, _<_};
 ghost use Rattle.terms.specs.Lists.{pick, holds};

@@ -1,8 +1,8 @@
 -- The rules' events in two halves: what is decided, and what is then done. That the two halves are the rules is a law: DecideLaws.
 -- Assumes nothing.
-use mathlib.Core.Bool.{Bool, true, false, not, _&&_, _||_}
-use mathlib.Core.Option.{Option, none, some}
-use mathlib.Core.List.{List, [], _∷_, _++_}
+use mathlib.Core.Bool.{Bool, not, _&&_, _||_}
+use mathlib.Core.Option.{Option}
+use mathlib.Core.List.{List, _++_}
 use Prim.Native.Nat.{ℕ, suc}
 use lib.ListN.{length}
 use lib.Dec.{leb, eqb}
@@ -17,7 +17,7 @@ use Rattle.terms.specs.declared.Event.the-variants as Event
 use Rattle.terms.specs.declared.Answer.{Answer}
 use Rattle.terms.specs.declared.Answer.the-variants.{Taken, AlreadySubmitted, SubmissionsFull, NotFaulty, CounterFull, NotIssued, ReceiverFaulty, TooLate, TooEarly, NotNext, WrongRoles, Unexpected, NotValid, FilesFull, CannotBuild}
 use Rattle.rules.specs.Table.{ag, up, sw, switchLeader}
-use Rattle.rules.specs.Room.{Room, Replica, Filing, issue, withReplica, withHistory, withCondition, notePair, accept, hold}
+use Rattle.rules.specs.Room.{Room, Filing, issue, withReplica, withHistory, withCondition, notePair, accept, hold}
 use Rattle.rules.specs.Reading.{isRunning, isClosed, isFaulty, contentAt, firstOf, secondOf, settledCount}
 use Rattle.rules.specs.Submit.{afterSubmit, namesUnfiled}
 use Rattle.rules.specs.Deliver.{expectsPrepare, expectsCommit, expectsPair, expectsUpdate, expectsSwitch, afterPrepare, afterCommit, afterUpdate, afterSwitch, isTooLate, hasWrongRoles}

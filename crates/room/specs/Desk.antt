@@ -1,5 +1,5 @@
 -- The desk as the code keeps it. Assumes nothing.
-use mathlib.Core.Bool.{Bool, true, false}
+use mathlib.Core.Bool.{false}
 use Prim.Native.Nat.{ℕ, _+_}
 use lib.Dec.{ltb}
 use Rattle.terms.specs.Lists.{pick}

@@ -1,7 +1,6 @@
 -- Every room that a good kit reaches is within the bounds that the layout asks for: after each event, and after each event's tick.
 -- Assumes nothing.
 use mathlib.Core.Path.{_≡_, sym, _∙_}
-use mathlib.Core.Bool.{true, false}
 use mathlib.Core.Option.{some}
 use Prim.Native.Nat.{ℕ}
 use native.Mathlib.Omega.{arith}

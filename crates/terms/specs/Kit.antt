@@ -1,15 +1,14 @@
 -- A kit as a value: f, leader, patience, the table, the events; what its numbers are, and which values document 01 allows. Assumes nothing.
 use mathlib.Core.Path.{_≡_}
-use mathlib.Core.Bool.{Bool, true, false, _||_, not}
+use mathlib.Core.Bool.{Bool, true, _||_, not}
 use mathlib.Core.List.{List, [], _∷_, _++_}
-use Prim.Native.Nat.{ℕ, zero, suc, _+_, _-_, _≤_, _<_}
+use Prim.Native.Nat.{ℕ, _+_, _-_, _≤_, _<_}
 use lib.ListN.{length, getD}
 use lib.Dec.{eqb, leb}
 use Rattle.terms.specs.Limits.{replicas, faultsMax, ticksMax, eventsMax, nameMax, requestsMax}
 use mathlib.Core.Option.{some}
 use Rattle.terms.specs.Lists.{countOf, allOf, nth}
 use Rattle.terms.specs.Numbers.{contentNumbers}
-use Rattle.terms.specs.declared.Content.{Content}
 use Rattle.terms.specs.declared.Event.{Event}
 use Rattle.terms.specs.declared.Event.the-variants.{Submit, Issue, Deliver, Hand, Panic, Idle, Build, File}
 

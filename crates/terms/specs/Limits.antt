@@ -1,5 +1,5 @@
 -- Document 01's limits, each by its name. Nothing else says one of these numbers for the same thing. Assumes nothing.
-use Prim.Native.Nat.{ℕ, suc, _+_, _^_}
+use Prim.Native.Nat.{ℕ, _+_}
 
 -- a kit has this many replicas
 abbrev pub replicas : ℕ → ℕ

@@ -1,6 +1,6 @@
 -- `answer_of`: a refusal's number, and 0 for what is taken. Assumes nothing.
 use borrow.Author.Needs.{needs}
-use mathlib.Core.Path.{_≡_, ap, _∙_}
+use mathlib.Core.Path.{_∙_}
 use Rattle.judge.proofs.answer_of.Statement.{statement}
 use Rattle.judge.proofs.answer_of.Tie as tie
 

@@ -3,7 +3,6 @@ use borrow.Author.Needs.{needs}
 use Rattle.judge.specs.Judge.{decideBuildOn}
 use Rattle.judge.proofs.build.Statement.{statement}
 use Rattle.judge.proofs.build.Tie as tie
-use Rattle.ledger.proofs.total.Reads as total-reads
 
 pub build-spec : {M : Type 1} → statement M
 unfolding decideBuildOn

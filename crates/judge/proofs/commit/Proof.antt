@@ -3,7 +3,6 @@ use borrow.Author.Needs.{needs}
 use Rattle.judge.specs.Judge.{decideCommitOn}
 use Rattle.judge.proofs.commit.Statement.{statement}
 use Rattle.judge.proofs.commit.Tie as tie
-use Rattle.validity.proofs.is_same.Reads as is-same-reads
 
 pub commit-spec : {M : Type 1} → statement M
 unfolding decideCommitOn

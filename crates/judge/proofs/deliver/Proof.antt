@@ -3,7 +3,6 @@ use borrow.Author.Needs.{needs}
 use Rattle.judge.specs.Judge.{decideDeliverOn}
 use Rattle.judge.proofs.deliver.Statement.{statement}
 use Rattle.judge.proofs.deliver.Tie as tie
-use Rattle.ledger.proofs.look_up.Reads as look-up-reads
 
 pub deliver-spec : {M : Type 1} → statement M
 unfolding decideDeliverOn

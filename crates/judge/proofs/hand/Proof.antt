@@ -3,8 +3,6 @@ use borrow.Author.Needs.{needs}
 use Rattle.judge.specs.Judge.{decideHandOn}
 use Rattle.judge.proofs.hand.Statement.{statement}
 use Rattle.judge.proofs.hand.Tie as tie
-use Rattle.ledger.proofs.look_up.Reads as look-up-reads
-use Rattle.validity.proofs.first_of.Reads as first-of-reads
 
 pub hand-spec : {M : Type 1} → statement M
 unfolding decideHandOn

@@ -4,7 +4,6 @@ use borrow.Author.Needs.{needs}
 use Rattle.judge.specs.Judge.{decideHoldOn}
 use Rattle.judge.proofs.hold.Statement.{statement}
 use Rattle.judge.proofs.hold.Tie as tie
-use Rattle.validity.proofs.is_valid.Reads as is-valid-reads
 
 pub hold-spec : {M : Type 1} → statement M
 unfolding decideHoldOn

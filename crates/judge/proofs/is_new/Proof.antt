@@ -3,7 +3,6 @@ use borrow.Author.Needs.{needs}
 use Rattle.judge.specs.Judge.{isNewIn}
 use Rattle.judge.proofs.is_new.Statement.{statement}
 use Rattle.judge.proofs.is_new.Tie as tie
-use Rattle.replica.proofs.holds.Reads as holds-reads
 
 pub is-new-spec : {M : Type 1} → statement M
 unfolding isNewIn

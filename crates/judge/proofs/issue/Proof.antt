@@ -4,7 +4,6 @@ use borrow.Author.Needs.{needs}
 use Rattle.judge.specs.Judge.{decideIssueOn}
 use Rattle.judge.proofs.issue.Statement.{statement}
 use Rattle.judge.proofs.issue.Tie as tie
-use Rattle.ledger.proofs.total.Reads as total-reads
 
 pub issue-spec : {M : Type 1} → statement M
 unfolding decideIssueOn

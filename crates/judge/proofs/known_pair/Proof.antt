@@ -3,7 +3,6 @@ use borrow.Author.Needs.{needs}
 use Rattle.judge.specs.Judge.{decidePairOn}
 use Rattle.judge.proofs.known_pair.Statement.{statement}
 use Rattle.judge.proofs.known_pair.Tie as tie
-use Rattle.validity.proofs.is_same.Reads as is-same-reads
 
 pub known-pair-spec : {M : Type 1} → statement M
 unfolding decidePairOn

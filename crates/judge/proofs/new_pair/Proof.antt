@@ -3,9 +3,6 @@ use borrow.Author.Needs.{needs}
 use Rattle.judge.specs.Judge.{decideUpdateOn}
 use Rattle.judge.proofs.new_pair.Statement.{statement}
 use Rattle.judge.proofs.new_pair.Tie as tie
-use Rattle.validity.proofs.first_of.Reads as first-of-reads
-use Rattle.validity.proofs.is_same.Reads as is-same-reads
-use Rattle.validity.proofs.second_of.Reads as second-of-reads
 
 pub new-pair-spec : {M : Type 1} → statement M
 unfolding decideUpdateOn

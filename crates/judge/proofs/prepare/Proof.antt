@@ -3,8 +3,6 @@ use borrow.Author.Needs.{needs}
 use Rattle.judge.specs.Judge.{decidePrepareOn}
 use Rattle.judge.proofs.prepare.Statement.{statement}
 use Rattle.judge.proofs.prepare.Tie as tie
-use Rattle.validity.proofs.first_of.Reads as first-of-reads
-use Rattle.validity.proofs.is_same.Reads as is-same-reads
 
 pub prepare-spec : {M : Type 1} → statement M
 unfolding decidePrepareOn

@@ -3,8 +3,6 @@ use borrow.Author.Needs.{needs}
 use Rattle.judge.specs.Judge.{decideReceiveOn}
 use Rattle.judge.proofs.receive.Statement.{statement}
 use Rattle.judge.proofs.receive.Tie as tie
-use Rattle.replica.proofs.accepted_of.Reads as accepted-of-reads
-use Rattle.validity.proofs.is_next.Reads as is-next-reads
 
 pub receive-spec : {M : Type 1} → statement M
 unfolding decideReceiveOn

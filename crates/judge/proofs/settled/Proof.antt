@@ -3,8 +3,6 @@ use borrow.Author.Needs.{needs}
 use Rattle.judge.specs.Judge.{settledOn}
 use Rattle.judge.proofs.settled.Statement.{statement}
 use Rattle.judge.proofs.settled.Tie as tie
-use Rattle.replica.proofs.accepted_of.Reads as accepted-of-reads
-use Rattle.replica.proofs.least_seen.Reads as least-seen-reads
 
 pub settled-spec : {M : Type 1} → statement M
 unfolding settledOn

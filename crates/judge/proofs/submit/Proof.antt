@@ -4,7 +4,6 @@ use borrow.Author.Needs.{needs}
 use Rattle.judge.specs.Judge.{decideSubmitOn}
 use Rattle.judge.proofs.submit.Statement.{statement}
 use Rattle.judge.proofs.submit.Tie as tie
-use Rattle.replica.proofs.holds.Reads as holds-reads
 
 pub submit-spec : {M : Type 1} → statement M
 unfolding decideSubmitOn

@@ -3,7 +3,6 @@ use borrow.Author.Needs.{needs}
 use Rattle.judge.specs.Judge.{decideSwitchOn}
 use Rattle.judge.proofs.switch.Statement.{statement}
 use Rattle.judge.proofs.switch.Tie as tie
-use Rattle.validity.proofs.is_same.Reads as is-same-reads
 
 pub switch-spec : {M : Type 1} → statement M
 unfolding decideSwitchOn

@@ -1,6 +1,6 @@
 -- `put_hex`: the digits from place i on are still to come. Assumes nothing.
 use borrow.Author.Needs.{needs}
-use mathlib.Core.Path.{_≡_, refl, ap}
+use mathlib.Core.Path.{refl, ap}
 use Prim.Native.Nat.{_-_}
 use lib.ListN.{length, drop, drop-of-length-le}
 use Rattle.text.specs.TextLaws.{lays-as}

@@ -1,6 +1,5 @@
 -- `put_pair`: a byte where both digits are there. Assumes nothing.
 use borrow.Author.Needs.{needs}
-use native.Mathlib.Omega.{arith}
 use borrow.Author.Tests.{le-leb, lt-leb}
 use Rattle.text.specs.TextLaws.{lays-as, lays-none}
 use Rattle.kit_plays.specs.Hex.{pairBytes}

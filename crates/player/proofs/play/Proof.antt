@@ -1,16 +1,15 @@
 -- `play`: what is still to be played, from here, gives what the whole play gives from the start. Assumes nothing.
 use borrow.Author.Needs.{needs}
 use native.Mathlib.Omega.{arith}
-use mathlib.Core.Path.{_≡_, refl, sym, ap, _∙_}
-use Prim.Native.Nat.{ℕ, suc, _+_, _-_, _≤_, _<_}
+use mathlib.Core.Path.{_≡_, sym, ap, _∙_}
+use Prim.Native.Nat.{_-_, _≤_, _<_}
 use Rattle.player.specs.TurnLaws.{concerned-seven, turn-made, turn-still, turns-next, turns-over, turns-start}
-use Rattle.player.specs.Turn.{playOn, leftOf, turnsFrom, turnOn, stage}
+use Rattle.player.specs.Turn.{playOn, leftOf, turnsFrom, stage}
 use mathlib.Core.Logic.{⊎-elim}
 use Rattle.terms.specs.Lists.{pick}
 use mathlib.Core.Bool.{not, _&&_}
 use mathlib.Core.List.{map}
 use Rattle.replica.specs.Record.{haltOn}
-use Rattle.judge.specs.Judge.{concernedIn}
 use Rattle.player.proofs.play.Statement.{statement}
 use Rattle.player.proofs.play.Tie as tie
 

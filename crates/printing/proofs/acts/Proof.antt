@@ -1,6 +1,6 @@
 -- `acts`: the table has seven places. Assumes nothing.
 use borrow.Author.Needs.{needs}
-use mathlib.Core.Path.{_≡_, refl, ap, _∙_}
+use mathlib.Core.Path.{_∙_}
 use borrow.Author.Tests.{le-leb, lt-leb}
 use Rattle.printing.specs.PlayLines.{actsIn}
 use Rattle.printing.proofs.acts.Statement.{statement}

@@ -1,6 +1,6 @@
 -- `settled_count`: as an active or as a passive replica. Assumes nothing.
 use borrow.Author.Needs.{needs}
-use mathlib.Core.Path.{_≡_, refl, ap, _∙_}
+use mathlib.Core.Path.{_∙_}
 use Rattle.printing.specs.PlayLines.{settledIn}
 use Rattle.printing.proofs.settled_count.Statement.{statement}
 use Rattle.printing.proofs.settled_count.Tie as tie

@@ -1,6 +1,4 @@
 -- `content_of`: a key for each content kind, and what is left is none of them. Assumes nothing.
-use mathlib.Core.Path.{_≡_, refl}
-use native.Mathlib.Omega.{arith}
 use borrow.Author.Tests.{ne-eqb, eq-eqb}
 use Rattle.terms.specs.Numbers.{contentOf}
 use Rattle.terms.proofs.content_of.Statement.{statement}

@@ -1,6 +1,4 @@
 -- `kind_of`: a key for each kind, and what is left is none of them. Assumes nothing.
-use mathlib.Core.Path.{_≡_, refl}
-use native.Mathlib.Omega.{arith}
 use borrow.Author.Tests.{ne-eqb}
 use Rattle.terms.specs.Numbers.{kindOf}
 use Rattle.terms.proofs.kind_of.Statement.{statement}

@@ -5,7 +5,7 @@ use borrow.Fn.PlainCycle.{Measures, is, falls, and}
 use borrow.Author.Needs.{needs}
 use native.Mathlib.Omega.{arith}
 use mathlib.Core.List.{[], _∷_, _++_}
-use mathlib.Core.Path.{_≡_, refl, sym, ap, _∙_}
+use mathlib.Core.Path.{sym, ap, _∙_}
 use Prim.{tt}
 use Rattle.text.specs.Text.{decimalIn}
 use Rattle.text.specs.TextLaws.{length-after, then-lays, lays-as, lays-none, decimal-last, decimal-more}

@@ -1,8 +1,7 @@
 -- `put_word`: what is left of the word, from here on, gives what the whole word gives from the start. Assumes nothing.
 use borrow.Author.Needs.{needs}
-use native.Mathlib.Omega.{arith}
 use mathlib.Core.Path.{_≡_, refl, sym, ap, _∙_}
-use Prim.Native.Nat.{ℕ, _+_, _-_}
+use Prim.Native.Nat.{_+_, _-_}
 use lib.ListN.{length, drop}
 use Rattle.text.specs.Text.{laid, Put}
 use Rattle.text.specs.TextLaws.{laid-from, laid-end, length-after}

@@ -1,9 +1,9 @@
 -- `are_settled`: all below i are settled, and the mark is that of the first i. Assumes nothing.
 use mathlib.Core.Path.{_≡_, refl, sym, _∙_}
-use Prim.Native.Nat.{_-_, suc, _<_}
+use Prim.Native.Nat.{_-_, suc}
 use native.Mathlib.Omega.{arith}
 use native.Mathlib.Numerals.{add-one}
-use lib.ListN.{length, take}
+use lib.ListN.{take}
 use borrow.Author.Needs.{needs}
 use Rattle.terms.specs.Mark.{markOf}
 use Rattle.validity.specs.Entries.{mark-next}

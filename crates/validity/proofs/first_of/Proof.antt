@@ -3,7 +3,6 @@ use borrow.Author.Needs.{needs}
 use Rattle.validity.specs.ValidityLaws.{first-number}
 use Rattle.validity.proofs.first_of.Statement.{statement}
 use Rattle.validity.proofs.first_of.Tie as tie
-use Rattle.terms.proofs.numbers_of_content.Reads as numbers-of-content-reads
 
 pub first-of-spec : {M : Type 1} → statement M
 first-of-spec =

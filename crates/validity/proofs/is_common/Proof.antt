@@ -4,7 +4,6 @@ use borrow.Author.Needs.{needs}
 use Rattle.validity.specs.Validity.{isCommonTo}
 use Rattle.validity.proofs.is_common.Statement.{statement}
 use Rattle.validity.proofs.is_common.Tie as tie
-use Rattle.replica.proofs.is_active.Reads as is-active-reads
 
 pub is-common-spec : {M : Type 1} → statement M
 unfolding isCommonTo

@@ -2,7 +2,6 @@
 use borrow.Author.Needs.{needs}
 use Rattle.validity.proofs.is_content.Statement.{statement}
 use Rattle.validity.proofs.is_content.Tie as tie
-use Rattle.ledger.proofs.look_up.Reads as look-up-reads
 
 pub is-content-spec : {M : Type 1} → statement M
 is-content-spec =

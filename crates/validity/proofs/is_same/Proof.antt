@@ -4,7 +4,6 @@ use borrow.Author.Needs.{needs}
 use Rattle.validity.specs.ValidityLaws.{same-numbers}
 use Rattle.validity.proofs.is_same.Statement.{statement}
 use Rattle.validity.proofs.is_same.Tie as tie
-use Rattle.terms.proofs.numbers_of_content.Reads as numbers-of-content-reads
 
 pub is-same-spec : {M : Type 1} → statement M
 is-same-spec =

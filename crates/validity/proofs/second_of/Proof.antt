@@ -3,7 +3,6 @@ use borrow.Author.Needs.{needs}
 use Rattle.validity.specs.ValidityLaws.{second-number}
 use Rattle.validity.proofs.second_of.Statement.{statement}
 use Rattle.validity.proofs.second_of.Tie as tie
-use Rattle.terms.proofs.numbers_of_content.Reads as numbers-of-content-reads
 
 pub second-of-spec : {M : Type 1} → statement M
 second-of-spec =
