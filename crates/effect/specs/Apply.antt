@@ -7,14 +7,13 @@ use lib.ListN.{getD, take}
 use lib.Dec.{leb, ltb}
 use Rattle.terms.specs.Lists.{pick}
 use Rattle.terms.specs.Mark.{nextMark, markOf}
-use Rattle.terms.specs.Kit.{marksActive}
 use Rattle.terms.specs.declared.Content.{Content}
 use Rattle.terms.specs.declared.Content.the-variants as Content
 use Rattle.rules.specs.Table.{ag, up, sw}
 use Rattle.rules.specs.Reading.{isRunning}
 use Rattle.ledger.specs.Ledger.{Book, totalOf, issueOn}
 use Rattle.replica.specs.declared.Replica.{Replica}
-use Rattle.replica.specs.Record.{noteOn, notePairOn, acceptOn, acceptedIn, markOn, haltOn, holdOn, closeOn, leastSeen, switchesIn, markIn}
+use Rattle.replica.specs.Record.{noteOn, notePairOn, acceptOn, markOn, haltOn, holdOn, closeOn, settledIn, switchesIn, markIn}
 use Rattle.room.specs.declared.Desk.{Desk}
 use Rattle.room.specs.declared.Roles.{Roles}
 use Rattle.room.specs.declared.Decision.{Decision}
@@ -33,14 +32,6 @@ abbrev pub issuing : Book → ℕ → ℕ → Content → Book
 issuing b x name content = issueOn (b .ledger) (b .issued) x name content
 
 -- ---- settling
-
-unfoldable pub actsIn : List ℕ → ℕ → Bool
-actsIn table x = pick (leb 7 x) false (marksActive (getD table x 0))
-
--- the settled count of replica `me` with these accepted values and `own` values on ag
-unfoldable pub settledIn : List ℕ → List ℕ → ℕ → ℕ → ℕ → ℕ
-settledIn accepted table leader me own =
-    leastSeen table accepted (actsIn table me) me own (pick (actsIn table me) own (acceptedIn accepted leader up))
 
 -- the request at a place, 0 past the end
 unfoldable pub requestAt : List ℕ → ℕ → ℕ

@@ -40,7 +40,7 @@ use Rattle.room.specs.BoundsLaws.{noting-fits, noted-submissions, built-fits}
 use Rattle.effect.specs.Enter.{row, builtRow, submissions, filings, entered, storeRequest, fileOn, enterOn}
 use Rattle.effect.specs.Apply.{applied, settleOn, leadOn, prepareOn, commitOn, handOn, buildOn, applyOn}
 use Rattle.effect.specs.Done.{entering, acting, doneOn}
-use Rattle.effect.specs.EffectLaws.{Counters, layBook, issuedMore, built-laid, settled-laid, pair-laid, switch-laid, settle-laid}
+use Rattle.effect.specs.EffectLaws.{Counters, layBook, issuedMore, built-laid, count-laid, pair-laid, switch-laid, settle-laid}
 
 -- ---- what replica `me` does
 
@@ -152,8 +152,8 @@ module _ (kit : Kit) (r : Room) (known : ℕ) (b : Bounds kit r) (me : ℕ) (bel
   done-commit sender value list sb correct =
       let q = accept p sender ag value in
       let own = length (r .counter me ag) in
-      let settled = settled-laid kit table-fits leader-below in
-      rw (total-laid (r .counter) me ag below (omega arith), accept-laid p sender ag value sb (omega arith), settled p me own below, settled q me own below)
+      let settled = count-laid kit table-fits leader-below in
+      rw (total-laid (r .counter) me ag below (omega arith), accept-laid p sender ag value sb (omega arith), settled p me own, settled q me own)
       (settled-as r known me (settledCount kit me p own) (settledCount kit me q own) q below (b .replicas me .noted-max) (own-room up correct))
 
   pub done-prepare : (sender value request : ℕ) (list : List ℕ) → sender < 7 → isFaulty (p .condition) ≡ false → isNew r p request ≡ true
@@ -165,10 +165,10 @@ module _ (kit : Kit) (r : Room) (known : ℕ) (b : Bounds kit r) (me : ℕ) (bel
       let own = length (r .counter me ag) in
       let content = Content.Commit request value in
       let r₁ = issue r me ag content in
-      let settled = settled-laid kit table-fits leader-below in
+      let settled = count-laid kit table-fits leader-below in
       rw (total-laid (r .counter) me ag below (omega arith), note-laid p request fits, accept-laid (note p request) sender ag value sb (omega arith))
-      (rw (settled p me own below, issue-laid (r .counter) me ag below (omega arith) content (own-room ag correct))
-      (rw (total-laid (r₁ .counter) me ag below (omega arith), grown ag content, settled q me (suc own) below)
+      (rw (settled p me own, issue-laid (r .counter) me ag below (omega arith) content (own-room ag correct))
+      (rw (total-laid (r₁ .counter) me ag below (omega arith), grown ag content, settled q me (suc own))
       (settled-as r₁ known me (settledCount kit me p own) (settledCount kit me q (suc own)) q below (omega (arith, length-snoc (p .noted) request)) (own-room up correct))))
 
   -- ---- on up
@@ -177,7 +177,7 @@ module _ (kit : Kit) (r : Room) (known : ℕ) (b : Bounds kit r) (me : ℕ) (bel
   unfolding doneOn enterOn applyOn countedOn carryOut layRoom layRoles afterUpdate accept withReplica
   done-known-pair sender value list sb =
       let q = accept p sender up value in
-      rw (pair-laid kit table-fits leader-below p sender value me sb below pairs-max)
+      rw (pair-laid kit table-fits leader-below p sender value me sb pairs-max)
       (acted-laid r known (r .counter) me (withMark q (markOfPair (p .pairMarks) (settledCount kit me q 0))))
 
   pub done-new-pair : (sender value request mark : ℕ) (list : List ℕ) → sender < 7 → isNew r p request ≡ true → Done (NewPair sender value request mark) list
@@ -186,7 +186,7 @@ module _ (kit : Kit) (r : Room) (known : ℕ) (b : Bounds kit r) (me : ℕ) (bel
       let fits : length (p .noted) < 64 = noting-fits b me request new in
       let q = accept (notePair p request mark) sender up value in
       let pair-fits : length (p .pairMarks) < 64 = omega (arith, b .replicas me .pairs-noted) in
-      rw (note-pair-laid p request mark fits pair-fits, pair-laid kit table-fits leader-below (notePair p request mark) sender value me sb below (omega (arith, length-snoc (p .pairMarks) mark)))
+      rw (note-pair-laid p request mark fits pair-fits, pair-laid kit table-fits leader-below (notePair p request mark) sender value me sb (omega (arith, length-snoc (p .pairMarks) mark)))
       (acted-laid r known (r .counter) me (withMark q (markOfPair (q .pairMarks) (settledCount kit me q 0))))
 
   -- ---- on sw

@@ -18,7 +18,7 @@ use Rattle.terms.specs.Kit.{Kit}
 use Rattle.terms.specs.declared.Content.{Content}
 use Rattle.terms.specs.declared.Content.the-variants as Content
 use Rattle.terms.specs.declared.Condition.the-variants.{Closed}
-use Rattle.rules.specs.Table.{up, sw, isActive}
+use Rattle.rules.specs.Table.{up, sw}
 use Rattle.rules.specs.Room.{Room, Filing, put2}
 use Rattle.rules.specs.Room as Rules
 use Rattle.rules.specs.Reading.{settledCount, listOf, heldList}
@@ -27,13 +27,13 @@ use Rattle.rules.specs.Switching.{missing}
 use Rattle.ledger.specs.Ledger.{Book, book}
 use Rattle.ledger.specs.LedgerLayout.{layLedger, layIssued}
 use Rattle.ledger.specs.LedgerLaws.{issue-laid}
-use Rattle.replica.specs.Record.{markIn}
+use Rattle.replica.specs.Record.{settledIn, markIn}
 use Rattle.replica.specs.RecordLayout.{numberOr0, layReplica}
-use Rattle.replica.specs.RecordLaws.{accept-laid, mark-laid, close-laid, accepted-laid, mark-in-laid, active-laid, least-laid, switches-laid}
+use Rattle.replica.specs.RecordLaws.{accept-laid, mark-laid, close-laid, mark-in-laid, settled-laid, switches-laid}
 use Rattle.room.specs.Layout.{headOf, layHeads, layLists, layTable}
 use Rattle.room.specs.LayoutLaws.{head-laid, list-laid}
 use Rattle.effect.specs.Enter.{row, storeAll, builtRow}
-use Rattle.effect.specs.Apply.{applied, actsIn, settledIn, requestAt, settleOn, pairOn, heldMark, switchOn}
+use Rattle.effect.specs.Apply.{applied, requestAt, settleOn, pairOn, heldMark, switchOn}
 
 -- what the counters have issued
 abbrev pub Counters : Type 0
@@ -115,22 +115,18 @@ module _ (p : Rules.Replica) where
 -- ---- settling
 
 module _ (kit : Kit) (table-fits : length (kit .table) ≤ 7) (leader-below : kit .leader < 7) where
-  acts-laid : (x : ℕ) → x < 7 → actsIn (layTable kit) x ≡ isActive kit x
-  unfolding actsIn layTable
-  acts-laid x below = rw (lt-leb 7 x below) (active-laid kit x)
+  pub count-laid : (p : Rules.Replica) (x own : ℕ) → settledIn (layReplica p .accepted) (layTable kit) (kit .leader) x own ≡ settledCount kit x p own
+  unfolding layTable
+  count-laid p x own = settled-laid kit p table-fits x own leader-below
 
-  pub settled-laid : (p : Rules.Replica) (x own : ℕ) → x < 7 → settledIn (layReplica p .accepted) (layTable kit) (kit .leader) x own ≡ settledCount kit x p own
-  unfolding settledIn layTable
-  settled-laid p x own below = rw (acts-laid x below, accepted-laid p (kit .leader) up leader-below (omega arith)) (least-laid kit p table-fits x own)
-
-  pub pair-laid : (p : Rules.Replica) (sender value x : ℕ) → sender < 7 → x < 7 → length (p .pairMarks) ≤ 64
+  pub pair-laid : (p : Rules.Replica) (sender value x : ℕ) → sender < 7 → length (p .pairMarks) ≤ 64
       → pairOn (layReplica p) sender value x (kit .leader) (layTable kit)
       ≡ layReplica (Rules.withMark (Rules.accept p sender up value) (markOfPair (p .pairMarks) (settledCount kit x (Rules.accept p sender up value) 0)))
   unfolding pairOn Rules.accept
-  pair-laid p sender value x sb xb h =
+  pair-laid p sender value x sb h =
       let q = Rules.accept p sender up value in
       let c = settledCount kit x q 0 in
-      rw (accept-laid p sender up value sb (omega arith), settled-laid q x 0 xb, pair-mark-laid q c h) (mark-laid q (markOfPair (p .pairMarks) c))
+      rw (accept-laid p sender up value sb (omega arith), count-laid q x 0, pair-mark-laid q c h) (mark-laid q (markOfPair (p .pairMarks) c))
 
   pub switch-laid : (p : Rules.Replica) (sender value : ℕ) (r : Room) → sender < 7 → length (r .histories) ≤ 8
       → switchOn (layReplica p) sender value (kit .f) (length (kit .table)) (layHeads (r .histories)) (layLists (r .histories))

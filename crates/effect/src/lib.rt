@@ -5,7 +5,7 @@ ghost use Rattle.terms.specs.Mark.{markOf};
 ghost use Rattle.rules.specs.Switching.{missing};
 ghost use Rattle.ledger.specs.Ledger.{book, issueOn};
 ghost use Rattle.effect.specs.Enter.{submissions, storeRequest, filings, fileOn, row, storeAll, addMissing, entered, enterOn};
-ghost use Rattle.effect.specs.Apply.{applied, actsIn, settledIn, requestAt, settleOn, leadOn, prepareOn, commitOn, pairOn, heldMark, switchOn, handOn, buildOn, applyOn, movesOn};
+ghost use Rattle.effect.specs.Apply.{applied, requestAt, settleOn, leadOn, prepareOn, commitOn, pairOn, heldMark, switchOn, handOn, buildOn, applyOn, movesOn};
 use ledger::Issued;
 use ledger::Ledger;
 use replica::Replica;
@@ -147,33 +147,6 @@ pub fn enter(
 
 // ---- settling
 
-// Whether the table marks replica x as active.
-fn acts(table: &[u32; 7], x: usize) -> bool
-    ensures { λ r. ⌜ r ≡ actsIn (now (table .entry)) x ⌝ }
-{
-    if 7 <= x {
-        return false;
-    }
-    replica::is_active(table[x])
-}
-
-// The settled count of replica `me` with these accepted values and `own` values on ag.
-fn settled_count(
-    accepted: &[u32; 21],
-    table: &[u32; 7],
-    leader: usize,
-    me: usize,
-    own: usize,
-) -> usize
-    ensures { λ r. ⌜ r ≡ settledIn (now (accepted .entry)) (now (table .entry)) leader me own ⌝ }
-{
-    if acts(table, me) {
-        return replica::least_seen(table, accepted, true, me, own, own);
-    }
-    let first = wide(replica::accepted_of(accepted, leader, 1));
-    replica::least_seen(table, accepted, false, me, own, first)
-}
-
 // The request at a place of a list, 0 past its end.
 fn request_at(list: &[u32; 64], c: usize) -> u32
     ensures { λ r. ⌜ r ≡ requestAt (now (list .entry)) c ⌝ }
@@ -253,12 +226,12 @@ fn prepare(
     ensures { λ r. ⌜ applied r (book (now (ledger .exit)) (now (issued .exit))) ≡ prepareOn p sender value request me leader (now (table .entry)) (book (now (ledger .entry)) (now (issued .entry))) ⌝ }
 {
     let before = p.accepted;
-    let c = settled_count(&before, table, leader, me, ledger::total(issued, me, 0));
+    let c = replica::settled_count(&before, table, leader, me, ledger::total(issued, me, 0));
     let noting = p.note(request);
     let accepting = noting.accept(sender, 0, value);
     ledger::issue(ledger, issued, me, 0, Content::Commit(request, value));
     let after = accepting.accepted;
-    let d = settled_count(&after, table, leader, me, ledger::total(issued, me, 0));
+    let d = replica::settled_count(&after, table, leader, me, ledger::total(issued, me, 0));
     settle(accepting, c, d, me, ledger, issued)
 }
 
@@ -277,10 +250,10 @@ fn commit(
 {
     let own = ledger::total(issued, me, 0);
     let before = p.accepted;
-    let c = settled_count(&before, table, leader, me, own);
+    let c = replica::settled_count(&before, table, leader, me, own);
     let accepting = p.accept(sender, 0, value);
     let after = accepting.accepted;
-    let d = settled_count(&after, table, leader, me, own);
+    let d = replica::settled_count(&after, table, leader, me, own);
     settle(accepting, c, d, me, ledger, issued)
 }
 
@@ -298,7 +271,7 @@ fn accept_pair(
     let accepting = p.accept(sender, 1, value);
     let accepted = accepting.accepted;
     let marks = accepting.marks;
-    let c = settled_count(&accepted, table, leader, me, 0);
+    let c = replica::settled_count(&accepted, table, leader, me, 0);
     let mark = replica::mark_of_pair(&marks, c);
     accepting.with_mark(mark)
 }

@@ -8,7 +8,6 @@ use lib.ListN.{take, getD}
 use lib.Dec.{leb, eqb}
 use Rattle.terms.specs.Limits.{requestsMax, filedMax, placesMax}
 use Rattle.terms.specs.Lists.{pick, holds, isSome}
-use Rattle.terms.specs.Kit.{marksActive}
 use Rattle.terms.specs.declared.Content.{Content}
 use Rattle.terms.specs.declared.Content.the-variants as Content
 use Rattle.terms.specs.declared.Condition.{Condition}
@@ -19,7 +18,7 @@ use Rattle.rules.specs.Table.{ag, up, sw, activesFrom, firstBut}
 use Rattle.rules.specs.Reading.{isRunning, isClosed, isFaulty, isContent, firstOf, secondOf}
 use Rattle.rules.specs.Deliver.{expectsSwitch}
 use Rattle.ledger.specs.Ledger.{Places, totalOf}
-use Rattle.replica.specs.Record.{acceptedIn, leastSeen}
+use Rattle.replica.specs.Record.{acceptedIn, activeIn, settledIn}
 use Rattle.room.specs.declared.Desk.{Desk}
 use Rattle.room.specs.declared.Roles.{Roles}
 use Rattle.room.specs.declared.Standing.{Standing}
@@ -47,9 +46,6 @@ concernedIn (Event.Panic to) roles = belowSeven to
 concernedIn Event.Idle roles = 0
 concernedIn Event.Build roles = belowSeven (roles .switcher)
 concernedIn (Event.File j k) roles = 0
-
-unfoldable pub isActiveIn : List ℕ → ℕ → Bool
-isActiveIn table x = marksActive (getD table x 0)
 
 -- ---- kinds 1 and 2
 
@@ -127,8 +123,8 @@ isTooLateIn name condition = pick (eqb name sw) (isClosed condition) (not (isRun
 unfoldable pub hasWrongRolesIn : List ℕ → ℕ → ℕ → ℕ → Bool
 hasWrongRolesIn table sender name to =
     eqb sender to
-    || pick (eqb name ag) (not (isActiveIn table sender && isActiveIn table to))
-    (pick (eqb name up) (not (isActiveIn table sender && not (isActiveIn table to))) false)
+    || pick (eqb name ag) (not (activeIn table sender && activeIn table to))
+    (pick (eqb name up) (not (activeIn table sender && not (activeIn table to))) false)
 
 -- once the certificate is known to be issued
 unfoldable pub decideReceiveOn : Standing → ℕ → List ℕ → List ℕ → List ℕ → List ℕ → List ℕ → ℕ → ℕ → ℕ → ℕ → ℕ → Option Content → Decision
@@ -171,16 +167,11 @@ decideHandOn s roles desk table requests heads lists ledger issued p q to =
 unfoldable pub decidePanicOn : Condition → Decision
 decidePanicOn condition = refuseIf (isFaulty condition) ReceiverFaulty (refuseIf (not (isRunning condition)) TooLate Panic)
 
--- the settled count of replica x with this ag total
-unfoldable pub settledOn : List ℕ → List ℕ → ℕ → ℕ → ℕ → ℕ
-settledOn table accepted leader x own =
-    leastSeen table accepted (isActiveIn table x) x own (pick (isActiveIn table x) own (acceptedIn accepted leader up))
-
 unfoldable pub decideBuildOn : Standing → Roles → List ℕ → List ℕ → List ℕ → Decision
 decideBuildOn s roles accepted table issued =
     let own = totalOf issued (roles .switcher) ag in
     refuseIf (isFaulty (s .condition) || (isRunning (s .condition) || s .holding)) CannotBuild
-    (Build (settledOn table accepted (roles .leader) (roles .switcher) own) own)
+    (Build (settledIn accepted table (roles .leader) (roles .switcher) own) own)
 
 unfoldable pub decideFileOn : ℕ → ℕ → ℕ → Decision
 decideFileOn filed j k = refuseIf (leb filedMax filed) FilesFull (File j k)

@@ -23,7 +23,7 @@ use Rattle.rules.specs.Deliver.{expectsPrepare, expectsCommit, expectsPair, exp
 use Rattle.ledger.specs.LedgerLaws.{total-laid}
 use Rattle.replica.specs.declared.Replica.{Replica}
 use Rattle.replica.specs.RecordLayout.{numberOr0, layReplica}
-use Rattle.replica.specs.RecordLaws.{accepted-laid, active-laid, actives-laid, least-laid}
+use Rattle.replica.specs.RecordLaws.{accepted-laid, active-laid, actives-laid, settled-laid}
 use Rattle.room.specs.declared.Roles.{Roles}
 use Rattle.room.specs.declared.Standing.{Standing}
 use Rattle.room.specs.declared.Decision.{Decision}
@@ -32,7 +32,7 @@ use Rattle.room.specs.Decide.{decideSubmit, decideIssue, decideAg, decideUp, de
 use Rattle.room.specs.Layout.{Parts, layRoles, layTable, layDesk, layRoom}
 use Rattle.room.specs.Bounds.{Bounds}
 use Rattle.room.specs.GoodLaws.{concerned-below}
-use Rattle.judge.specs.Judge.{switchLeaderOf, belowSeven, concernedIn, isActiveIn, namesUnfiledIn, heldIn, isNewIn, isTooLateIn, hasWrongRolesIn, decideSubmitOn, decideIssueOn, decidePrepareOn, decideCommitOn, decidePairOn, decideUpdateOn, decideSwitchOn, decideContentOn, decideReceiveOn, decideDeliverOn, decideHoldOn, decideHandOn, decidePanicOn, settledOn, decideBuildOn, decideFileOn, decideOn}
+use Rattle.judge.specs.Judge.{switchLeaderOf, belowSeven, concernedIn, namesUnfiledIn, heldIn, isNewIn, isTooLateIn, hasWrongRolesIn, decideSubmitOn, decideIssueOn, decidePrepareOn, decideCommitOn, decidePairOn, decideUpdateOn, decideSwitchOn, decideContentOn, decideReceiveOn, decideDeliverOn, decideHoldOn, decideHandOn, decidePanicOn, decideBuildOn, decideFileOn, decideOn}
 use Rattle.judge.specs.ValidLaws.{content-laid, leader-seven, switcher-seven, table-seven, valid-laid}
 
 -- ---- an event judged on the player's parts
@@ -81,7 +81,7 @@ held-laid none = refl
 held-laid (some h) = refl
 
 roles-laid : (kit : Kit) (sender name to : ℕ) → hasWrongRolesIn (layTable kit) sender name to ≡ hasWrongRoles kit sender name to
-unfolding hasWrongRolesIn hasWrongRoles isActiveIn layTable
+unfolding hasWrongRolesIn hasWrongRoles layTable
 roles-laid kit sender name to = rw (active-laid kit sender, active-laid kit to)
 
 -- ---- by kind
@@ -133,11 +133,11 @@ module _ (kit : Kit) (r : Room) (b : Bounds kit r) (known : ℕ) where
       rw (content-laid kit r b s ag p (switcher-seven kit r b) (omega arith), content-laid kit r b s up q (switcher-seven kit r b) (omega arith), take-pad 64 (r .submitted), valid-laid kit r b _ p q)
 
   build-judged : judged (switchLeader kit) Event.Build ≡ decideBuild kit r
-  unfolding judgeOn decideOn layRoom layRoles layTable layReplica decideBuildOn settledOn isActiveIn decideBuild
+  unfolding judgeOn decideOn layRoom layRoles layTable layReplica decideBuildOn decideBuild
   build-judged =
       let s = switchLeader kit in
       let p = r .replica s in
-      rw (total-laid (r .counter) s ag (switcher-seven kit r b) (omega arith), active-laid kit s, accepted-laid p (kit .leader) up (leader-seven kit r b) (omega arith), least-laid kit p (table-seven kit r b) s (length (r .counter s ag)))
+      rw (total-laid (r .counter) s ag (switcher-seven kit r b) (omega arith), settled-laid kit p (table-seven kit r b) s (length (r .counter s ag)) (leader-seven kit r b))
 
 -- the law: a good event, judged with the record of the replica concerned, is decided as the rules decide it
 pub judge-laid : (kit : Kit) (r : Room) (known : ℕ) (event : Event) (list : List ℕ) → Bounds kit r → GoodEvent (replicas (kit .f)) event list

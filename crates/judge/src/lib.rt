@@ -9,7 +9,7 @@ ghost use lib.Dec.{leb, eqb};
 ghost use lib.ListN.{getD};
 ghost use Rattle.rules.specs.Table.{sw};
 ghost use Rattle.rules.specs.Reading.{isRunning, isClosed, isFaulty};
-ghost use Rattle.judge.specs.Judge.{switchLeaderOf, belowSeven, concernedIn, isActiveIn, decideSubmitOn, namesUnfiledIn, decideIssueOn, isNewIn, decidePrepareOn, decideCommitOn, decidePairOn, decideUpdateOn, decideSwitchOn, decideContentOn, isTooLateIn, hasWrongRolesIn, decideReceiveOn, decideDeliverOn, decideHoldOn, decideHandOn, decidePanicOn, settledOn, decideBuildOn, decideFileOn, decideOn};
+ghost use Rattle.judge.specs.Judge.{switchLeaderOf, belowSeven, concernedIn, decideSubmitOn, namesUnfiledIn, decideIssueOn, isNewIn, decidePrepareOn, decideCommitOn, decidePairOn, decideUpdateOn, decideSwitchOn, decideContentOn, isTooLateIn, hasWrongRolesIn, decideReceiveOn, decideDeliverOn, decideHoldOn, decideHandOn, decidePanicOn, decideBuildOn, decideFileOn, decideOn};
 use ledger::Issued;
 use ledger::Ledger;
 use room::Decision;
@@ -81,17 +81,6 @@ fn is_faulty(condition: Condition) -> bool
         Condition::Closed => false,
         Condition::Faulty => true,
     }
-}
-
-// Whether the table marks replica x active.
-fn is_active_at(table: &[u32; 7], x: usize) -> bool
-    ensures { λ r. ⌜ r ≡ isActiveIn (now (table .entry)) x ⌝ }
-{
-    let entries: &[u32] = table;
-    if entries.len() <= x {
-        return false;
-    }
-    replica::is_active(entries[x])
 }
 
 // The active replica of lowest number apart from the leader.
@@ -366,8 +355,8 @@ fn has_wrong_roles(table: &[u32; 7], sender: usize, name: usize, to: usize) -> b
     if sender == to {
         return true;
     }
-    let from = is_active_at(table, sender);
-    let at = is_active_at(table, to);
+    let from = replica::is_active_at(table, sender);
+    let at = replica::is_active_at(table, to);
     if name == 0 {
         if from {
             return !at;
@@ -585,17 +574,6 @@ fn panic(condition: Condition) -> Decision
     }
 }
 
-// The settled count of replica x with this ag total.
-fn settled(table: &[u32; 7], accepted: &[u32; 21], leader: usize, x: usize, own: usize) -> usize
-    ensures { λ r. ⌜ r ≡ settledOn (now (table .entry)) (now (accepted .entry)) leader x own ⌝ }
-{
-    if is_active_at(table, x) {
-        return replica::least_seen(table, accepted, true, x, own, own);
-    }
-    let first = wide(replica::accepted_of(accepted, leader, 1));
-    replica::least_seen(table, accepted, false, x, own, first)
-}
-
 // Kind 7: the switch leader faulty, running, or holding a history. j is its settled count, k its ag total.
 fn build(
     standing: Standing,
@@ -617,7 +595,7 @@ fn build(
         return Decision::Refuse(Answer::CannotBuild);
     }
     let k = ledger::total(issued, roles.switcher, 0);
-    let j = settled(table, accepted, roles.leader, roles.switcher, k);
+    let j = replica::settled_count(accepted, table, roles.leader, roles.switcher, k);
     Decision::Build(j, k)
 }
 

@@ -1,18 +1,17 @@
 -- The lines of a play, from the parts that the player keeps, whatever is in them. Laws: PlayText, where the parts are a room's of the
 -- rules. Assumes nothing.
-use mathlib.Core.Bool.{Bool, false}
+use mathlib.Core.Bool.{false}
 use mathlib.Core.List.{List, [], _++_}
 use Prim.Native.Nat.{ℕ, suc, min}
 use lib.ListN.{getD, take}
-use lib.Dec.{leb, ltb}
+use lib.Dec.{ltb}
 use Rattle.terms.specs.Lists.{pick}
-use Rattle.terms.specs.Kit.{marksActive}
 use Rattle.terms.specs.declared.Condition.{Condition}
 use Rattle.terms.specs.declared.Condition.the-variants.{Running, Halted, Closed, Faulty}
-use Rattle.rules.specs.Table.{ag, up}
+use Rattle.rules.specs.Table.{ag}
 use Rattle.ledger.specs.Ledger.{totalOf}
 use Rattle.replica.specs.declared.Replica.{Replica}
-use Rattle.replica.specs.Record.{freshRecord, acceptedIn, leastSeen}
+use Rattle.replica.specs.Record.{freshRecord, settledIn}
 use Rattle.room.specs.declared.Desk.{Desk}
 use Rattle.room.specs.declared.Roles.{Roles}
 use Rattle.printing.specs.Lines.{eventLine, replicaLine, lateText, linesFrom}
@@ -27,14 +26,6 @@ unfoldable pub eventLines : List ℕ → List ℕ → ℕ → List ℕ
 eventLines clocks answers n = linesFrom 0 (min n 4096) (eventAt clocks answers)
 
 -- ---- replicas
-
-unfoldable pub actsIn : List ℕ → ℕ → Bool
-actsIn table x = pick (leb 7 x) false (marksActive (getD table x 0))
-
--- the settled count of replica x with these accepted values and `own` values on ag
-unfoldable pub settledIn : List ℕ → List ℕ → ℕ → ℕ → ℕ → ℕ
-settledIn accepted table leader x own =
-    leastSeen table accepted (actsIn table x) x own (pick (actsIn table x) own (acceptedIn accepted leader up))
 
 -- what a replica that has not closed has settled: the first of its noted requests
 unfoldable pub notedShown : ℕ → List ℕ → List ℕ → ℕ → Replica → List ℕ

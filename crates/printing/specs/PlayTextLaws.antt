@@ -7,14 +7,14 @@ use Prim.Native.Nat.{ℕ, suc, _≤_, _<_, min}
 use native.Mathlib.Omega.{arith}
 use lib.ListN.{length, getD, take}
 use lib.Dec.{ltb}
-use borrow.Author.Tests.{ltb-true, lt-ltb, lt-leb}
+use borrow.Author.Tests.{ltb-true, lt-ltb}
 use Rattle.terms.specs.Lists.{pick, nth, isSome}
 use Rattle.terms.specs.ListLaws.{split, nth-lt}
 use Rattle.terms.specs.Kit.{Kit}
 use Rattle.terms.specs.Padding.{take-pad, take-pad-le}
 use Rattle.terms.specs.declared.Condition.{Condition}
 use Rattle.terms.specs.declared.Condition.the-variants.{Running, Halted, Closed, Faulty}
-use Rattle.rules.specs.Table.{ag, up}
+use Rattle.rules.specs.Table.{ag}
 use Rattle.rules.specs.Room.{Room, Filing}
 use Rattle.rules.specs.Room as Rules
 use Rattle.rules.specs.Reading.{settledCount, settledNoted, listOf, heldList, settled}
@@ -23,14 +23,15 @@ use Rattle.ledger.specs.Ledger.{totalOf}
 use Rattle.ledger.specs.LedgerLayout.{layIssued}
 use Rattle.ledger.specs.LedgerLaws.{total-laid}
 use Rattle.replica.specs.RecordLayout.{numberOr0, layReplica}
-use Rattle.replica.specs.RecordLaws.{accepted-laid, active-laid, least-laid}
+use Rattle.replica.specs.RecordLaws.{settled-laid}
+use Rattle.replica.specs.Record.{settledIn}
 use Rattle.room.specs.Layout.{Parts, layRoles, layTable, layHeads, layLists, layDesk, layReplicas, layRoom}
 use Rattle.room.specs.LayoutLaws.{head-laid, list-laid, replica-laid}
 use Rattle.room.specs.Bounds.{Bounds}
 use Rattle.room.specs.GoodLaws.{size-max, leader-max}
 use Rattle.printing.specs.Lines.{linesFrom}
 use Rattle.printing.specs.LinesLaws.{lines-ext, take-least}
-use Rattle.printing.specs.PlayLines.{eventLines, actsIn, settledIn, notedShown, heldShown, lineIn, seatLine, seatLines, playLines}
+use Rattle.printing.specs.PlayLines.{eventLines, notedShown, heldShown, lineIn, seatLine, seatLines, playLines}
 use Rattle.printing.specs.PlayText.{numberSaid, eventSaid, replicaSaid, textAfter}
 
 -- the first so many of the requests that are noted
@@ -44,15 +45,10 @@ module _ (kit : Kit) (r : Room) (b : Bounds kit r) where
   count-said : (x : ℕ) → x < 7
       → settledIn (layReplica (r .replica x) .accepted) (layTable kit) (kit .leader) x (totalOf (layIssued (r .counter)) x ag)
       ≡ settledCount kit x (r .replica x) (length (r .counter x ag))
-  unfolding settledIn actsIn layTable
+  unfolding layTable
   count-said x below =
-      rw (
-        lt-leb 7 x below,
-        active-laid kit x,
-        total-laid (r .counter) x ag below (omega arith),
-        accepted-laid (r .replica x) (kit .leader) up (leader-max (b .good)) (omega arith),
-      )
-      (least-laid kit (r .replica x) (size-max (b .good)) x (length (r .counter x ag)))
+      rw (total-laid (r .counter) x ag below (omega arith))
+      (settled-laid kit (r .replica x) (size-max (b .good)) x (length (r .counter x ag)) (leader-max (b .good)))
 
   noted-said : (x : ℕ) → x < 7
       → notedShown (kit .leader) (layTable kit) (layIssued (r .counter)) x (layReplica (r .replica x))

@@ -8,7 +8,7 @@ ghost use Rattle.terms.specs.Numbers.{conditionWord};
 ghost use Rattle.terms.specs.declared.Condition.the-variants.{Closed};
 ghost use Rattle.text.specs.Text.{Lays};
 ghost use Rattle.printing.specs.Lines.{spaced, requestsText, eventLine, replicaName, replicaLine, lateText, kitLine};
-ghost use Rattle.printing.specs.PlayLines.{actsIn, settledIn, notedShown, heldShown, seatLine, seatLines, eventLines, playLines};
+ghost use Rattle.printing.specs.PlayLines.{notedShown, heldShown, seatLine, seatLines, eventLines, playLines};
 use ledger::Issued;
 use replica::Replica;
 use room::Desk;
@@ -166,33 +166,6 @@ fn put_first(
     put_replica(out, at, x, condition, mark, &list[..m])
 }
 
-// Whether the table marks replica x as active.
-fn acts(table: &[u32; 7], x: usize) -> bool
-    ensures { λ r. ⌜ r ≡ actsIn (now (table .entry)) x ⌝ }
-{
-    if 7 <= x {
-        return false;
-    }
-    replica::is_active(table[x])
-}
-
-// The settled count of replica x with these accepted values and `own` values on ag.
-fn settled_count(
-    accepted: &[u32; 21],
-    table: &[u32; 7],
-    leader: usize,
-    x: usize,
-    own: usize,
-) -> usize
-    ensures { λ r. ⌜ r ≡ settledIn (now (accepted .entry)) (now (table .entry)) leader x own ⌝ }
-{
-    if acts(table, x) {
-        return replica::least_seen(table, accepted, true, x, own, own);
-    }
-    let first = index(replica::accepted_of(accepted, leader, 1));
-    replica::least_seen(table, accepted, false, x, own, first)
-}
-
 // The line of a replica that has not closed: it has settled the first of its noted requests.
 fn put_noted(
     out: &mut [u8],
@@ -209,7 +182,7 @@ fn put_noted(
     let accepted = p.accepted;
     let noted = p.noted;
     let own = ledger::total(issued, x, 0);
-    let c = settled_count(&accepted, table, leader, x, own);
+    let c = replica::settled_count(&accepted, table, leader, x, own);
     let n = lesser(c, p.count);
     put_first(out, at, x, condition, p.mark, &noted, n)
 }

@@ -6,9 +6,10 @@ use Prim.Native.Nat.{ℕ, _+_, _*_, _-_, min}
 use lib.ListN.{getD, set, replicate}
 use lib.Dec.{leb, ltb, eqb}
 use Rattle.terms.specs.Lists.{pick, leastOver, countBelow}
+use Rattle.terms.specs.Kit.{marksActive}
 use Rattle.terms.specs.declared.Condition.{Condition}
 use Rattle.terms.specs.declared.Condition.the-variants.{Running, Halted, Closed, Faulty}
-use Rattle.rules.specs.Table.{sw, activesFrom}
+use Rattle.rules.specs.Table.{up, sw, activesFrom}
 use Rattle.rules.specs.Reading.{valueSeen}
 use Rattle.replica.specs.declared.Replica.{Replica}
 
@@ -84,12 +85,21 @@ closeOn p mark = markOn (withCondition p Closed) mark
 unfoldable pub acceptedIn : List ℕ → ℕ → ℕ → ℕ
 acceptedIn accepted sender name = pick (leb 7 sender) 0 (pick (leb 3 name) 0 (getD accepted (3 * sender + name) 0))
 
+-- the table marks replica x as active
+unfoldable pub activeIn : List ℕ → ℕ → Bool
+activeIn table x = marksActive (getD table x 0)
+
 unfoldable pub lesserOf : Bool → List ℕ → ℕ → ℕ → ℕ → ℕ → ℕ
 lesserOf active accepted me own y c = min (valueSeen active own me (acceptedIn accepted) y) c
 
 -- the least over the active replicas of what is seen of them, as the rules take it
 unfoldable pub leastSeen : List ℕ → List ℕ → Bool → ℕ → ℕ → ℕ → ℕ
 leastSeen table accepted active me own first = leastOver (activesFrom table 0) (valueSeen active own me (acceptedIn accepted)) first
+
+-- the settled count of replica x with these accepted values and `own` values on ag
+unfoldable pub settledIn : List ℕ → List ℕ → ℕ → ℕ → ℕ → ℕ
+settledIn accepted table leader x own =
+    leastSeen table accepted (activeIn table x) x own (pick (activeIn table x) own (acceptedIn accepted leader up))
 
 -- a SWITCH of replica y, one of the first `size`, was accepted
 unfoldable pub switchedIn : List ℕ → ℕ → ℕ → Bool

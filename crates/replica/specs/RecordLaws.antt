@@ -4,7 +4,7 @@ use mathlib.Core.Bool.{Bool, false}
 use mathlib.Core.List.{List, [], _∷_, _++_}
 use Prim.Native.Nat.{ℕ, zero, suc, _+_, _-_, _≤_, _<_}
 use native.Mathlib.Omega.{arith}
-use lib.ListN.{length, take, getD, replicate}
+use lib.ListN.{length, take, replicate}
 use lib.Dec.{eqb}
 use borrow.Author.Tests.{le-ltb, le-leb, lt-leb, ne-eqb, eqb-true, eqb-false}
 use Rattle.terms.specs.Lists.{pick, leastOver, countBelow}
@@ -20,7 +20,7 @@ use Rattle.rules.specs.Clock.{halt}
 use Rattle.rules.specs.Reading.{isRunning, settledCount}
 use Rattle.rules.specs.Deliver.{markOfPair, switches}
 use Rattle.replica.specs.declared.Replica.{Replica}
-use Rattle.replica.specs.Record.{freshRecord, noteOn, notePairOn, acceptOn, markOn, haltOn, halted, holdOn, closeOn, acceptedIn, leastSeen, switchedIn, switchesIn, markIn}
+use Rattle.replica.specs.Record.{freshRecord, noteOn, notePairOn, acceptOn, markOn, haltOn, halted, holdOn, closeOn, acceptedIn, activeIn, leastSeen, settledIn, switchedIn, switchesIn, markIn}
 use Rattle.replica.specs.RecordLayout.{layReplica}
 
 -- ---- the steps
@@ -86,8 +86,8 @@ mark-in-laid l (suc c) h =
     let before : suc c - 1 ≡ c = omega arith in
     rw (ne-eqb (suc c) 0 (λ e. omega arith), le-ltb 64 (suc c) h, before) (getD-pad 64 l c)
 
-pub active-laid : (kit : Kit) (x : ℕ) → marksActive (getD (pad 7 (kit .table)) x 0) ≡ isActive kit x
-unfolding isActive
+pub active-laid : (kit : Kit) (x : ℕ) → activeIn (pad 7 (kit .table)) x ≡ isActive kit x
+unfolding activeIn isActive
 active-laid kit x = rw (getD-pad 7 (kit .table) x)
 
 -- ---- settled counts: the padding marks no replica active
@@ -124,11 +124,15 @@ count-ext zero s t e = refl
 count-ext (suc n) s t e = rw (e n (omega arith), count-ext n s t (λ y h. e y (omega arith)))
 
 module _ (kit : Kit) (p : Rules.Replica) (small : length (kit .table) ≤ 7) where
-  pub least-laid : (x own : ℕ) → leastSeen (pad 7 (kit .table)) (layReplica p .accepted) (isActive kit x) x own (pick (isActive kit x) own (p .accepted (kit .leader) up)) ≡ settledCount kit x p own
+  least-laid : (x own : ℕ) → leastSeen (pad 7 (kit .table)) (layReplica p .accepted) (isActive kit x) x own (pick (isActive kit x) own (p .accepted (kit .leader) up)) ≡ settledCount kit x p own
   unfolding leastSeen settledCount actives
   least-laid x own =
       rw (actives-laid (kit .table))
       (least-ext (kit .table) 0 _ _ _ (λ y b. rw (accepted-laid p y 0 (omega arith) (omega arith), accepted-laid p y 1 (omega arith) (omega arith))))
+
+  pub settled-laid : (x own : ℕ) → kit .leader < 7 → settledIn (layReplica p .accepted) (pad 7 (kit .table)) (kit .leader) x own ≡ settledCount kit x p own
+  unfolding settledIn
+  settled-laid x own below = rw (active-laid kit x, accepted-laid p (kit .leader) up below (omega arith)) (least-laid x own)
 
   pub switches-laid : switchesIn (layReplica p .accepted) (length (kit .table)) ≡ switches kit p
   unfolding switchesIn switchedIn switches

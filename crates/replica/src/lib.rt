@@ -5,7 +5,7 @@ ghost use lib.ListN.{take};
 ghost use Prim.Native.Nat.{_+_, _<_};
 ghost use Rattle.terms.specs.Lists.{pick, holds};
 ghost use Rattle.terms.specs.Kit.{marksActive};
-ghost use Rattle.replica.specs.Record.{freshRecord, noteOn, notePairOn, acceptOn, acceptedIn, markOn, haltOn, holdOn, closeOn, lesserOf, leastSeen, switchedIn, switchesIn, markIn};
+ghost use Rattle.replica.specs.Record.{freshRecord, noteOn, notePairOn, acceptOn, acceptedIn, markOn, haltOn, holdOn, closeOn, activeIn, lesserOf, leastSeen, settledIn, switchedIn, switchesIn, markIn};
 use terms::Condition;
 
 // What a replica keeps. `noted` has `count` requests, `marks` the marks of `pairs` pairs, `accepted` the last accepted value of each
@@ -187,6 +187,17 @@ pub fn is_active(n: u32) -> bool
     n == 3
 }
 
+// Whether the table marks replica x as active.
+pub fn is_active_at(table: &[u32; 7], x: usize) -> bool
+    ensures { λ r. ⌜ r ≡ activeIn (now (table .entry)) x ⌝ }
+{
+    let entries: &[u32] = table;
+    if entries.len() <= x {
+        return false;
+    }
+    is_active(entries[x])
+}
+
 // Whether the first n of a list hold a request; the oldest is looked at first.
 pub fn holds(list: &[u32; 64], n: usize, request: u32) -> bool
     ensures { λ r. ⌜ r ≡ holds request (take n (now (list .entry))) ⌝ }
@@ -242,8 +253,8 @@ fn lesser(active: bool, accepted: &[u32; 21], me: usize, own: usize, y: usize, c
     c
 }
 
-// The settled count of replica `me`, active or passive, with `own` values on ag: the least over all active replicas, and of `first`.
-pub fn least_seen(
+// The least, over all active replicas and of `first`, of what replica `me` has seen of them; `own` is its own ag total.
+fn least_seen(
     table: &[u32; 7],
     accepted: &[u32; 21],
     active: bool,
@@ -265,6 +276,23 @@ pub fn least_seen(
         }
     }
     c
+}
+
+// The settled count of replica `me` with these accepted values and `own` values on ag.
+pub fn settled_count(
+    accepted: &[u32; 21],
+    table: &[u32; 7],
+    leader: usize,
+    me: usize,
+    own: usize,
+) -> usize
+    ensures { λ r. ⌜ r ≡ settledIn (now (accepted .entry)) (now (table .entry)) leader me own ⌝ }
+{
+    if is_active_at(table, me) {
+        return least_seen(table, accepted, true, me, own, own);
+    }
+    let first = wide(accepted_of(accepted, leader, 1));
+    least_seen(table, accepted, false, me, own, first)
 }
 
 // One more where it counts. The count stays below 2^32: at most seven are counted.

@@ -16,4 +16,4 @@ build-spec =
     (λ c. rw (← c .before .before .before .before .is-faulty .ensures, c .before .before .before .if1 .left, ← c .before .before .is-running .ensures, c .before .if2 .left, c .if3 .taken))
     (λ c κs. search needs)
     (λ c κs. search needs)
-    (λ c. rw (← c .before .before .before .before .before .before .is-faulty .ensures, c .before .before .before .before .before .if1 .left, ← c .before .before .before .before .is-running .ensures, c .before .before .before .if2 .left, c .before .before .if3 .left, ← c .before .total .ensures, ← c .settled .ensures)))
+    (λ c. rw (← c .before .before .before .before .before .before .is-faulty .ensures, c .before .before .before .before .before .if1 .left, ← c .before .before .before .before .is-running .ensures, c .before .before .before .if2 .left, c .before .before .if3 .left, ← c .before .total .ensures, ← c .settled-count .ensures)))

@@ -1,12 +1,12 @@
 -- `is_active_at` meets its contract. Assumes nothing.
 use lib.ListN.{List·getD-eq-default}
 use borrow.Author.Needs.{needs}
-use Rattle.judge.specs.Judge.{isActiveIn}
-use Rattle.judge.proofs.is_active_at.Statement.{statement}
-use Rattle.judge.proofs.is_active_at.Tie as tie
+use Rattle.replica.specs.Record.{activeIn}
+use Rattle.replica.proofs.is_active_at.Statement.{statement}
+use Rattle.replica.proofs.is_active_at.Tie as tie
 
 pub is-active-at-spec : {M : Type 1} → statement M
-unfolding isActiveIn
+unfolding activeIn
 is-active-at-spec =
     tie.close
     (tie.spec
