@@ -73,18 +73,22 @@ pub record Calm (r r₁ : Room) : Type 0 where
 calm-keeps : {r r₁ : Room} → Calm r r₁ → Keeps r r₁
 calm-keeps c = record { held = λ x h e. c .held-same x ∙ e; closed = c .closed-kept; faulty = c .faulty-same; untouched = c .untouched-here }
 
-calm-refl : (r : Room) → Calm r r
-calm-refl r =
+-- a room that has the same records, counters and histories
+calm-same : {r r₁ : Room} → r₁ .replica ≡ r .replica → r₁ .counter ≡ r .counter → r₁ .histories ≡ r .histories → r₁ .filed ≡ r .filed → Calm r r₁
+calm-same ep ec eh ef =
     record {
-      histories-same = refl;
-      filed-same = refl;
-      held-same = λ x. refl;
-      closed-kept = λ x e. e;
-      faulty-same = λ x. refl;
-      untouched-here = λ x e. refl;
-      others-same = λ x n e l. refl;
-      faulty-few = λ f. f;
+      histories-same = eh;
+      filed-same = ef;
+      held-same = λ x. rw ep;
+      closed-kept = λ x e. rw ep e;
+      faulty-same = λ x. rw ep;
+      untouched-here = λ x e. rw ep;
+      others-same = λ x n e l. rw ec;
+      faulty-few = λ f x n d. rw ec (f x n (rw ep at d));
     }
+
+calm-refl : (r : Room) → Calm r r
+calm-refl r = calm-same refl refl refl refl
 
 calm-trans : {a b c : Room} → Calm a b → Calm b c → Calm a c
 calm-trans f g =
@@ -134,17 +138,7 @@ calm-faulty r x name c fx room =
 
 calm-remember : (r : Room) (request : ℕ) → Calm r (remember r request)
 unfolding remember
-calm-remember r request =
-    record {
-      histories-same = refl;
-      filed-same = refl;
-      held-same = λ y. refl;
-      closed-kept = λ y d. d;
-      faulty-same = λ y. refl;
-      untouched-here = λ y d. refl;
-      others-same = λ y n d l. refl;
-      faulty-few = λ f. f;
-    }
+calm-remember r request = calm-same refl refl refl refl
 
 calm-record : (r : Room) (x : ℕ) (p : Replica) → p .held ≡ r .replica x .held
     → (isClosed (r .replica x .condition) ≡ true → isClosed (p .condition) ≡ true)
@@ -185,17 +179,7 @@ calm-panicAll r late =
 
 calm-clock : (r : Room) (n : ℕ) → Calm r (withClock r n)
 unfolding withClock
-calm-clock r n =
-    record {
-      histories-same = refl;
-      filed-same = refl;
-      held-same = λ y. refl;
-      closed-kept = λ y d. d;
-      faulty-same = λ y. refl;
-      untouched-here = λ y d. refl;
-      others-same = λ y n d l. refl;
-      faulty-few = λ f. f;
-    }
+calm-clock r n = calm-same refl refl refl refl
 
 pub calm-tick : (kit : Kit) (r : Room) (gap : ℕ) → Calm r (tick kit r gap)
 unfolding tick

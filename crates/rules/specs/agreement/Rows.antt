@@ -1,20 +1,16 @@
 -- That the theorem is no empty statement: plays of good kits, computed from the rules, in which correct replicas have settled lists of different
 -- lengths. Assumes nothing.
 use mathlib.Core.Path.{_≡_, refl}
-use mathlib.Core.Bool.{Bool, true, false, _&&_}
 use mathlib.Core.Option.{some}
 use mathlib.Core.List.{List, [], _∷_}
-use Prim.Native.Nat.{ℕ, zero, suc}
-use native.Mathlib.Omega.{arith}
-use lib.Dec.{ltb, leb}
-use borrow.Author.Tests.{ltb-true, leb-true}
-use Rattle.terms.specs.Limits.{nameMax}
-use Rattle.terms.specs.ListLaws.{no-way, and-l, and-r}
-use Rattle.terms.specs.Kit.{Kit, Entry, GoodEntries, GoodEvent, GoodKit, isRequest}
+use Rattle.grammar.specs.Parser.{parse}
+use Rattle.grammar.specs.ParserLaws.{accepted-good}
+use Rattle.terms.specs.Numbers.{contentOf, kindOf}
+use Rattle.terms.specs.Kit.{Kit, Entry, GoodKit, kitNumbers}
 use Rattle.terms.specs.declared.Content.the-variants.{Prepare}
 use Rattle.terms.specs.declared.Condition.the-variants.{Closed}
 use Rattle.terms.specs.declared.Event.{Event}
-use Rattle.terms.specs.declared.Event.the-variants.{Submit, Issue, Deliver, Hand, Panic, Idle, Build, File}
+use Rattle.terms.specs.declared.Event.the-variants.{Submit, Issue, Deliver, Hand, Panic, Build}
 use Rattle.terms.specs.declared.Answer.the-variants.{Unexpected, NotNext}
 use Rattle.rules.specs.Table.{ag, up, sw}
 use Rattle.rules.specs.Play.{after, answer}
@@ -54,84 +50,15 @@ twiceEvents =
 abbrev pub twice : Kit
 twice = record { f = 2; leader = 0; patience = 10; table = 3 ∷ 1 ∷ 1 ∷ 0 ∷ 0 ∷ []; events = atOnce twiceEvents }
 
--- ---- both are kits of document 01
-
--- whether an event that files nothing has its operands in range
-fits : ℕ → Event → Bool
-fits size (Submit request) = isRequest request
-fits size (Issue x name content) = ltb x size && leb name nameMax
-fits size (Deliver sender name value to) = ltb sender size && (leb name nameMax && ltb to size)
-fits size (Hand p q to) = ltb to size
-fits size (Panic to) = ltb to size
-fits size Idle = true
-fits size Build = true
-fits size (File j k) = false
-
-fits-good : (size : ℕ) (e : Event) → fits size e ≡ true → GoodEvent size e []
-unfolding fits
-fits-good size (Submit request) t = (t, refl)
-fits-good size (Issue x name content) t = (ltb-true x size (and-l _ (leb name nameMax) t), leb-true name nameMax (and-r (ltb x size) _ t), refl)
-fits-good size (Deliver sender name value to) t =
-    let u = and-r (ltb sender size) (leb name nameMax && ltb to size) t in (
-      ltb-true sender size (and-l _ (leb name nameMax && ltb to size) t),
-      leb-true name nameMax (and-l _ (ltb to size) u),
-      ltb-true to size
-          (and-r (leb name nameMax) _ u),
-      refl,
-    )
-fits-good size (Hand p q to) t = (ltb-true to size t, refl)
-fits-good size (Panic to) t = (ltb-true to size t, refl)
-fits-good size Idle t = refl
-fits-good size Build t = refl
-fits-good size (File j k) t = no-way (cc)
-
-allFit : ℕ → List Event → Bool
-allFit size [] = true
-allFit size (e ∷ es) = fits size e && allFit size es
-
-all-good : (size : ℕ) (es : List Event) → allFit size es ≡ true → GoodEntries size (atOnce es)
-unfolding allFit
-all-good size [] t i d h = no-way (cc)
-all-good size (e ∷ es) t zero d h =
-    let z : record { gap = 0; event = e; requests = [] } ≡ d = cc in
-    rw (← z) (record { gap = omega arith; event = fits-good size e (and-l (fits size e) (allFit size es) t) })
-all-good size (e ∷ es) t (suc i) d h = all-good size es (and-r (fits size e) (allFit size es) t) i d h
+-- ---- both are kits of document 01: their numbers are read as a kit
 
 busy-good : GoodKit busy
-unfolding fits allFit
-busy-good =
-    record {
-      f-low = omega arith;
-      f-high = omega arith;
-      leader-below = omega arith;
-      patience-low = omega arith;
-      patience-high = omega arith;
-      table-length = refl;
-      table-numbers = refl;
-      active-count = refl;
-      faulty-count = omega arith;
-      leader-active = refl;
-      event-count = omega arith;
-      events-good = all-good 3 busyEvents refl;
-    }
+unfolding parse kitNumbers kindOf contentOf
+busy-good = accepted-good (kitNumbers busy) busy refl
 
 twice-good : GoodKit twice
-unfolding fits allFit
-twice-good =
-    record {
-      f-low = omega arith;
-      f-high = omega arith;
-      leader-below = omega arith;
-      patience-low = omega arith;
-      patience-high = omega arith;
-      table-length = refl;
-      table-numbers = refl;
-      active-count = refl;
-      faulty-count = omega arith;
-      leader-active = refl;
-      event-count = omega arith;
-      events-good = all-good 5 twiceEvents refl;
-    }
+unfolding parse kitNumbers kindOf contentOf
+twice-good = accepted-good (kitNumbers twice) twice refl
 
 pub record AgreementRows : Type 0 where
   -- after 5 events two correct active replicas have settled one and two requests
