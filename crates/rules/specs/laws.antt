@@ -1,3 +1,6 @@
+-- The first laws of the rules: what an event can change (Changes), and from that what refusals leave alone (Refused), what is issued
+-- (Certificates), the clock and its ticks (Time), answered requests (Answered) and the late tick (Lateness), at every moment (Moments). FirstLaws
+-- has them on one page. Assumes nothing.
 pub mod Moments
 pub mod Changes
 pub mod Refused
