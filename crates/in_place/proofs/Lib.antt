@@ -1,0 +1,5 @@
+pub mod Argument
+pub mod Certificates
+pub mod Lent
+pub mod Thin
+pub mod ThinWith
