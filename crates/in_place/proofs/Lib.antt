@@ -1,4 +1,8 @@
 pub mod Argument
+pub mod At
+pub mod AtWith
+pub mod By
+pub mod ByWith
 pub mod Certificates
 pub mod Lent
 pub mod Thin

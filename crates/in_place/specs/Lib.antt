@@ -1,1 +1,2 @@
+pub mod ChangedAt
 pub mod Delivered

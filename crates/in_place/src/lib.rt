@@ -2,6 +2,7 @@
 // anew, and stores what it gives.
 ghost use mathlib.Core.Path.{_≡_};
 ghost use Rattle.replica.specs.Record.{noteOn, haltOn, holdOn, closeOn};
+ghost use Rattle.in_place.specs.ChangedAt.{changedAt};
 ghost use Rattle.in_place.specs.Delivered.{deliveredOn};
 use replica::Replica;
 
@@ -54,4 +55,84 @@ pub fn close_in(r: &mut Replica, mark: u32)
     ensures { λ _. ⌜ now (r .exit) ≡ closeOn (now (r .entry)) mark ⌝ }
 {
     *r = r.close(mark);
+}
+
+// ---- one of the room's seven records, where it stands; all others are untouched, and past the end nothing is changed
+
+// Replica x halts.
+pub fn halt_at(replicas: &mut [Replica; 7], x: usize)
+    ensures { λ _. ⌜ now (replicas .exit) ≡ changedAt haltOn x (now (replicas .entry)) ⌝ }
+{
+    if 7 <= x {
+        return;
+    }
+    halt_in(&mut replicas[x]);
+}
+
+// A certificate is delivered to replica x.
+pub fn deliver_at(replicas: &mut [Replica; 7], x: usize, c: Certificate)
+    ensures { λ _. ⌜ now (replicas .exit) ≡ changedAt (λ p. deliveredOn p c) x (now (replicas .entry)) ⌝ }
+{
+    if 7 <= x {
+        return;
+    }
+    deliver_in(&mut replicas[x], c);
+}
+
+// Replica x holds a handed history.
+pub fn hold_at(replicas: &mut [Replica; 7], x: usize, history: u32)
+    ensures { λ _. ⌜ now (replicas .exit) ≡ changedAt (λ p. holdOn p history) x (now (replicas .entry)) ⌝ }
+{
+    if 7 <= x {
+        return;
+    }
+    hold_in(&mut replicas[x], history);
+}
+
+// Replica x closes, with the mark of the list that it has settled.
+pub fn close_at(replicas: &mut [Replica; 7], x: usize, mark: u32)
+    ensures { λ _. ⌜ now (replicas .exit) ≡ changedAt (λ p. closeOn p mark) x (now (replicas .entry)) ⌝ }
+{
+    if 7 <= x {
+        return;
+    }
+    close_in(&mut replicas[x], mark);
+}
+
+// ---- the seven by value, for every other caller
+
+// The records with replica x halted.
+pub fn with_halted(all: [Replica; 7], x: usize) -> [Replica; 7]
+    ensures { λ r. ⌜ r ≡ changedAt haltOn x all ⌝ }
+{
+    let mut replicas = all;
+    halt_at(&mut replicas, x);
+    replicas
+}
+
+// The records with a certificate delivered to replica x.
+pub fn with_delivered(all: [Replica; 7], x: usize, c: Certificate) -> [Replica; 7]
+    ensures { λ r. ⌜ r ≡ changedAt (λ p. deliveredOn p c) x all ⌝ }
+{
+    let mut replicas = all;
+    deliver_at(&mut replicas, x, c);
+    replicas
+}
+
+// The records with a history held by replica x.
+pub fn with_held(all: [Replica; 7], x: usize, history: u32) -> [Replica; 7]
+    ensures { λ r. ⌜ r ≡ changedAt (λ p. holdOn p history) x all ⌝ }
+{
+    let mut replicas = all;
+    hold_at(&mut replicas, x, history);
+    replicas
+}
+
+// The records with replica x closed.
+pub fn with_closed(all: [Replica; 7], x: usize, mark: u32) -> [Replica; 7]
+    ensures { λ r. ⌜ r ≡ changedAt (λ p. closeOn p mark) x all ⌝ }
+{
+    let mut replicas = all;
+    close_at(&mut replicas, x, mark);
+    replicas
 }

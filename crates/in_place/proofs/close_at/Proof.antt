@@ -1,0 +1,22 @@
+-- `close_at`: `AtWith`, at `closeOn` and `close_in`. Assumes nothing.
+use contract.Running.{givenOf, tables, tablesOf}
+use denote.Triple.Spec.{tripleOf}
+use denote.Triple.Table.{entered, cited}
+use Rattle.replica.specs.Record.{closeOn}
+use Rattle.in_place.proofs.Argument.{number}
+use Rattle.in_place.proofs.AtWith.{StepIn, at-meets}
+use Rattle.in_place.proofs.close_in.Symbol as close-in-def
+use Rattle.in_place.proofs.close_in.Symbol.{name as #close-in}
+use Rattle.in_place.proofs.close_in.Met as close-in-thm
+use Rattle.in_place.proofs.close_at.Key.{name as #close-at}
+use Rattle.in_place.proofs.close_at as close-at
+use Rattle.in_place.proofs.close_at.Statement as stated
+use Rattle.in_place.proofs.close_at.Code as code
+
+pub close-at-spec : {M : Type 1} → stated.statement M
+unfolding code.routine tablesOf
+close-at-spec 𝓤 H 𝓜 𝓖 𝓡 =
+    entered 𝓤 H (tripleOf 𝓤 H (𝓖 .A) close-at.signature (close-at.spec 𝓤 H (𝓖 .A) (𝓜 .mem) (𝓡 .run)))
+    (tables 𝓤 H 𝓜 𝓡 code.env .C) (tables 𝓤 H 𝓜 𝓡 code.env .Λ) #close-at code.function (code.unfolded 𝓤 H 𝓜 𝓡)
+    (at-meets number 𝓤 H (𝓖 .A) (givenOf 𝓤 H 𝓜 𝓖) closeOn #close-in (tablesOf 𝓤 H 𝓜 (tables 𝓤 H 𝓜 𝓡 code.env))
+    (cited 𝓤 H (StepIn number 𝓤 H (𝓖 .A) (givenOf 𝓤 H 𝓜 𝓖) closeOn) 𝓜 𝓡 code.env #close-in close-in-def.routine code.calls-in-place·close-in (close-in-thm.met 𝓤 H 𝓜 𝓖 𝓡)))
