@@ -190,7 +190,14 @@ module _ (G : Argument) where
     walks g C Λ fm known = walked 𝓤 H A at-ended stayed (at-clauses 𝓤 f) (WpFn 𝓤 H C Λ (at-thin g)) (λ κs. (ptr-vals, (uint-vals w64, ((λ c. G .val c ∷ []), tt)))) (λ κs. (mut-tells (named 0) (κs .0) Rs, (uint-tells w64, (G .tells, tt))))
         (λ κs qs bounds a _ are. via 𝓤 _ (fst∗ 𝓤 _ (emp 𝓤)) (walk (κs .0) (qs .0) (a .0 .ptr .0) (a .0 .ptr .1) (a .0 .name) (a .0 .now) (a .1 .0) (are .1 .0 .1) (a .1 .1 .0) (are .1 .1 .0) g C Λ fm known))
 
-    pub at-meets : (g : Name) (𝓣 : Tables 𝓤 H) → Triple 𝓤 (𝓣 .C g) StepIn → Meets 𝓤 H A (at-ended .signature) (WpFn 𝓤 H (𝓣 .C) (𝓣 .Λ) (at-thin g)) (closing 𝓤 H A at-ended (at-clauses 𝓤 f))
-    at-meets g 𝓣 known =
+    as-lemma : (g : Name) (𝓣 : Tables 𝓤 H) → Triple 𝓤 (𝓣 .C g) StepIn → Meets 𝓤 H A (at-ended .signature) (WpFn 𝓤 H (𝓣 .C) (𝓣 .Λ) (at-thin g)) (closing 𝓤 H A at-ended (at-clauses 𝓤 f))
+    as-lemma g 𝓣 known =
         walk-meets 𝓤 H A at-ended stayed W (goes-ref 𝓤 H A W 1 0 tt (plain (λ _. Rs)), (goes-none 𝓤 H A W 1 (λ _. usize) yes (λ κs x f. refl), (goes-none 𝓤 H A W 1 (λ _. Q) yes (λ κs x f. refl), tt))) (at-clauses 𝓤 f) (WpFn 𝓤 H (𝓣 .C) (𝓣 .Λ) (at-thin g)) (WpFn-mono 𝓤 H (W .laws) 𝓣 (at-thin g))
         (walks g (𝓣 .C) (𝓣 .Λ) (fmOf 𝓤 H (W .laws) 𝓣) known)
+
+    -- a function whose code and promise are these
+    pub at-meets : (g : Name) (code : Fn) → at-thin g ≡ code → (promise : Clauses 𝓤 at-ended) → at-clauses 𝓤 f ≡ promise → (𝓣 : Tables 𝓤 H) → Triple 𝓤 (𝓣 .C g) StepIn
+        → Meets 𝓤 H A (at-ended .signature) (WpFn 𝓤 H (𝓣 .C) (𝓣 .Λ) code) (closing 𝓤 H A at-ended promise)
+    at-meets g code is promise says 𝓣 known =
+        subst (λ (d : Fn). Meets 𝓤 H A (at-ended .signature) (WpFn 𝓤 H (𝓣 .C) (𝓣 .Λ) d) (closing 𝓤 H A at-ended promise)) is
+        (subst (λ (d : Clauses 𝓤 at-ended). Meets 𝓤 H A (at-ended .signature) (WpFn 𝓤 H (𝓣 .C) (𝓣 .Λ) (at-thin g)) (closing 𝓤 H A at-ended d)) says (as-lemma g 𝓣 known))

@@ -1,4 +1,5 @@
 -- `close_at`: `AtWith`, at `closeOn` and `close_in`. Assumes nothing.
+use mathlib.Core.Path.{refl}
 use contract.Running.{givenOf, tables, tablesOf}
 use denote.Triple.Spec.{tripleOf}
 use denote.Triple.Table.{entered, cited}
@@ -18,5 +19,5 @@ unfolding code.routine tablesOf
 close-at-spec 𝓤 H 𝓜 𝓖 𝓡 =
     entered 𝓤 H (tripleOf 𝓤 H (𝓖 .A) close-at.signature (close-at.spec 𝓤 H (𝓖 .A) (𝓜 .mem) (𝓡 .run)))
     (tables 𝓤 H 𝓜 𝓡 code.env .C) (tables 𝓤 H 𝓜 𝓡 code.env .Λ) #close-at code.function (code.unfolded 𝓤 H 𝓜 𝓡)
-    (at-meets number 𝓤 H (𝓖 .A) (givenOf 𝓤 H 𝓜 𝓖) closeOn #close-in (tablesOf 𝓤 H 𝓜 (tables 𝓤 H 𝓜 𝓡 code.env))
+    (at-meets number 𝓤 H (𝓖 .A) (givenOf 𝓤 H 𝓜 𝓖) closeOn #close-in code.function refl (close-at.clauses 𝓤 H (𝓖 .A) (𝓜 .mem) (𝓡 .run)) refl (tablesOf 𝓤 H 𝓜 (tables 𝓤 H 𝓜 𝓡 code.env))
     (cited 𝓤 H (StepIn number 𝓤 H (𝓖 .A) (givenOf 𝓤 H 𝓜 𝓖) closeOn) 𝓜 𝓡 code.env #close-in close-in-def.routine code.calls-in-place·close-in (close-in-thm.met 𝓤 H 𝓜 𝓖 𝓡)))

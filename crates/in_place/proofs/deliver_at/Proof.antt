@@ -1,4 +1,5 @@
 -- `deliver_at`: `AtWith`, at `deliveredOn` and `deliver_in`. Assumes nothing.
+use mathlib.Core.Path.{refl}
 use contract.Running.{givenOf, tables, tablesOf}
 use denote.Triple.Spec.{tripleOf}
 use denote.Triple.Table.{entered, cited}
@@ -18,5 +19,5 @@ unfolding code.routine tablesOf
 deliver-at-spec 𝓤 H 𝓜 𝓖 𝓡 =
     entered 𝓤 H (tripleOf 𝓤 H (𝓖 .A) deliver-at.signature (deliver-at.spec 𝓤 H (𝓖 .A) (𝓜 .mem) (𝓡 .run)))
     (tables 𝓤 H 𝓜 𝓡 code.env .C) (tables 𝓤 H 𝓜 𝓡 code.env .Λ) #deliver-at code.function (code.unfolded 𝓤 H 𝓜 𝓡)
-    (at-meets certificate 𝓤 H (𝓖 .A) (givenOf 𝓤 H 𝓜 𝓖) deliveredOn #deliver-in (tablesOf 𝓤 H 𝓜 (tables 𝓤 H 𝓜 𝓡 code.env))
+    (at-meets certificate 𝓤 H (𝓖 .A) (givenOf 𝓤 H 𝓜 𝓖) deliveredOn #deliver-in code.function refl (deliver-at.clauses 𝓤 H (𝓖 .A) (𝓜 .mem) (𝓡 .run)) refl (tablesOf 𝓤 H 𝓜 (tables 𝓤 H 𝓜 𝓡 code.env))
     (cited 𝓤 H (StepIn certificate 𝓤 H (𝓖 .A) (givenOf 𝓤 H 𝓜 𝓖) deliveredOn) 𝓜 𝓡 code.env #deliver-in deliver-in-def.routine code.calls-in-place·deliver-in (deliver-in-thm.met 𝓤 H 𝓜 𝓖 𝓡)))

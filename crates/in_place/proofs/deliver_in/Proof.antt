@@ -1,4 +1,5 @@
 -- `deliver_in`: `ThinWith`, at `deliveredOn` and `deliver`. Assumes nothing.
+use mathlib.Core.Path.{refl}
 use contract.Running.{givenOf, tables, tablesOf}
 use denote.Triple.Spec.{tripleOf}
 use denote.Triple.Table.{entered, cited}
@@ -18,5 +19,5 @@ unfolding code.routine tablesOf
 deliver-in-spec 𝓤 H 𝓜 𝓖 𝓡 =
     entered 𝓤 H (tripleOf 𝓤 H (𝓖 .A) deliver-in.signature (deliver-in.spec 𝓤 H (𝓖 .A) (𝓜 .mem) (𝓡 .run)))
     (tables 𝓤 H 𝓜 𝓡 code.env .C) (tables 𝓤 H 𝓜 𝓡 code.env .Λ) #deliver-in code.function (code.unfolded 𝓤 H 𝓜 𝓡)
-    (thin-meets certificate 𝓤 H (𝓖 .A) (givenOf 𝓤 H 𝓜 𝓖) deliveredOn #deliver (tablesOf 𝓤 H 𝓜 (tables 𝓤 H 𝓜 𝓡 code.env))
+    (thin-meets certificate 𝓤 H (𝓖 .A) (givenOf 𝓤 H 𝓜 𝓖) deliveredOn #deliver code.function refl (deliver-in.clauses 𝓤 H (𝓖 .A) (𝓜 .mem) (𝓡 .run)) refl (tablesOf 𝓤 H 𝓜 (tables 𝓤 H 𝓜 𝓡 code.env))
     (cited 𝓤 H (Step certificate 𝓤 H (𝓖 .A) (givenOf 𝓤 H 𝓜 𝓖) deliveredOn) 𝓜 𝓡 code.env #deliver deliver-def.routine code.calls-in-place·deliver (deliver-thm.met 𝓤 H 𝓜 𝓖 𝓡)))

@@ -1,4 +1,5 @@
 -- `note_in`: `ThinWith`, at `noteOn` and `note`. Assumes nothing.
+use mathlib.Core.Path.{refl}
 use contract.Running.{givenOf, tables, tablesOf}
 use denote.Triple.Spec.{tripleOf}
 use denote.Triple.Table.{entered, cited}
@@ -18,5 +19,5 @@ unfolding code.routine tablesOf
 note-in-spec 𝓤 H 𝓜 𝓖 𝓡 =
     entered 𝓤 H (tripleOf 𝓤 H (𝓖 .A) note-in.signature (note-in.spec 𝓤 H (𝓖 .A) (𝓜 .mem) (𝓡 .run)))
     (tables 𝓤 H 𝓜 𝓡 code.env .C) (tables 𝓤 H 𝓜 𝓡 code.env .Λ) #note-in code.function (code.unfolded 𝓤 H 𝓜 𝓡)
-    (thin-meets number 𝓤 H (𝓖 .A) (givenOf 𝓤 H 𝓜 𝓖) noteOn #note (tablesOf 𝓤 H 𝓜 (tables 𝓤 H 𝓜 𝓡 code.env))
+    (thin-meets number 𝓤 H (𝓖 .A) (givenOf 𝓤 H 𝓜 𝓖) noteOn #note code.function refl (note-in.clauses 𝓤 H (𝓖 .A) (𝓜 .mem) (𝓡 .run)) refl (tablesOf 𝓤 H 𝓜 (tables 𝓤 H 𝓜 𝓡 code.env))
     (cited 𝓤 H (Step number 𝓤 H (𝓖 .A) (givenOf 𝓤 H 𝓜 𝓖) noteOn) 𝓜 𝓡 code.env #note note-def.routine code.calls-replica·Replica·note (note-thm.met 𝓤 H 𝓜 𝓖 𝓡)))

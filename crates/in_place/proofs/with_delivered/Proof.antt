@@ -1,4 +1,5 @@
 -- `with_delivered`: `ByWith`, at `deliveredOn` and `deliver_at`. Assumes nothing.
+use mathlib.Core.Path.{refl}
 use contract.Running.{givenOf, tables, tablesOf}
 use denote.Triple.Spec.{tripleOf}
 use denote.Triple.Table.{entered, cited}
@@ -18,5 +19,5 @@ unfolding code.routine tablesOf
 with-delivered-spec 𝓤 H 𝓜 𝓖 𝓡 =
     entered 𝓤 H (tripleOf 𝓤 H (𝓖 .A) with-delivered.signature (with-delivered.spec 𝓤 H (𝓖 .A) (𝓜 .mem) (𝓡 .run)))
     (tables 𝓤 H 𝓜 𝓡 code.env .C) (tables 𝓤 H 𝓜 𝓡 code.env .Λ) #with-delivered code.function (code.unfolded 𝓤 H 𝓜 𝓡)
-    (by-meets certificate 𝓤 H (𝓖 .A) (givenOf 𝓤 H 𝓜 𝓖) deliveredOn #deliver-at (tablesOf 𝓤 H 𝓜 (tables 𝓤 H 𝓜 𝓡 code.env))
+    (by-meets certificate 𝓤 H (𝓖 .A) (givenOf 𝓤 H 𝓜 𝓖) deliveredOn #deliver-at code.function refl (with-delivered.clauses 𝓤 H (𝓖 .A) (𝓜 .mem) (𝓡 .run)) refl (tablesOf 𝓤 H 𝓜 (tables 𝓤 H 𝓜 𝓡 code.env))
     (cited 𝓤 H (StepAt certificate 𝓤 H (𝓖 .A) (givenOf 𝓤 H 𝓜 𝓖) deliveredOn) 𝓜 𝓡 code.env #deliver-at deliver-at-def.routine code.calls-in-place·deliver-at (deliver-at-thm.met 𝓤 H 𝓜 𝓖 𝓡)))
