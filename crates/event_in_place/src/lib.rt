@@ -1,0 +1,64 @@
+// What one event does to the record that it concerns, where it stands: `effect::apply` on a record that is lent, alone or as one of the room's
+// seven. All other records are untouched; the counters are lent on.
+ghost use mathlib.Core.Path.{_≡_};
+ghost use Rattle.ledger.specs.Ledger.{book};
+ghost use Rattle.effect.specs.Apply.{applied, applyOn};
+ghost use Rattle.event_in_place.specs.AppliedAt.{appliedAll, appliedAt};
+use effect::Heads;
+use effect::Lists;
+use ledger::Issued;
+use ledger::Ledger;
+use replica::Replica;
+use room::Decision;
+use room::Desk;
+use room::Roles;
+
+// What a decision does to the record of the replica concerned, `me`, and to the counters.
+pub fn apply_in(
+    r: &mut Replica,
+    decision: Decision,
+    desk: Desk,
+    me: usize,
+    roles: Roles,
+    table: &[u32; 7],
+    heads: &Heads,
+    lists: &Lists,
+    ledger: &mut Ledger,
+    issued: &mut Issued,
+)
+    ensures { λ _. ⌜ applied (now (r .exit)) (book (now (ledger .exit)) (now (issued .exit))) ≡ applyOn (now (r .entry)) decision desk me roles (now (table .entry)) (now (heads .entry)) (now (lists .entry)) (book (now (ledger .entry)) (now (issued .entry))) ⌝ }
+{
+    *r = effect::apply(*r, decision, desk, me, roles, table, heads, lists, ledger, issued);
+}
+
+// The same of the room's records: record `me` is changed and no other; past the end nothing is.
+pub fn apply_at(
+    replicas: &mut [Replica; 7],
+    decision: Decision,
+    desk: Desk,
+    me: usize,
+    roles: Roles,
+    table: &[u32; 7],
+    heads: &Heads,
+    lists: &Lists,
+    ledger: &mut Ledger,
+    issued: &mut Issued,
+)
+    ensures { λ _. ⌜ appliedAll (now (replicas .exit)) (book (now (ledger .exit)) (now (issued .exit))) ≡ appliedAt (λ p b. applyOn p decision desk me roles (now (table .entry)) (now (heads .entry)) (now (lists .entry)) b) me (now (replicas .entry)) (book (now (ledger .entry)) (now (issued .entry))) ⌝ }
+{
+    if 7 <= me {
+        return;
+    }
+    apply_in(
+        &mut replicas[me],
+        decision,
+        desk,
+        me,
+        roles,
+        table,
+        heads,
+        lists,
+        ledger,
+        issued,
+    );
+}
