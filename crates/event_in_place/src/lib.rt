@@ -28,7 +28,18 @@ pub fn apply_in(
 )
     ensures { λ _. ⌜ applied (now (r .exit)) (book (now (ledger .exit)) (now (issued .exit))) ≡ applyOn (now (r .entry)) decision desk me roles (now (table .entry)) (now (heads .entry)) (now (lists .entry)) (book (now (ledger .entry)) (now (issued .entry))) ⌝ }
 {
-    *r = effect::apply(*r, decision, desk, me, roles, table, heads, lists, ledger, issued);
+    *r = effect::apply(
+        *r,
+        decision,
+        desk,
+        me,
+        roles,
+        table,
+        heads,
+        lists,
+        ledger,
+        issued,
+    );
 }
 
 // The same of the room's records: record `me` is changed and no other; past the end nothing is.
@@ -61,4 +72,35 @@ pub fn apply_at(
         ledger,
         issued,
     );
+}
+
+// The same with the room's records by value, for every other caller.
+pub fn with_applied(
+    all: [Replica; 7],
+    decision: Decision,
+    desk: Desk,
+    me: usize,
+    roles: Roles,
+    table: &[u32; 7],
+    heads: &Heads,
+    lists: &Lists,
+    ledger: &mut Ledger,
+    issued: &mut Issued,
+) -> [Replica; 7]
+    ensures { λ r. ⌜ appliedAll r (book (now (ledger .exit)) (now (issued .exit))) ≡ appliedAt (λ p b. applyOn p decision desk me roles (now (table .entry)) (now (heads .entry)) (now (lists .entry)) b) me all (book (now (ledger .entry)) (now (issued .entry))) ⌝ }
+{
+    let mut replicas = all;
+    apply_at(
+        &mut replicas,
+        decision,
+        desk,
+        me,
+        roles,
+        table,
+        heads,
+        lists,
+        ledger,
+        issued,
+    );
+    replicas
 }

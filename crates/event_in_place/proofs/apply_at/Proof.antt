@@ -124,9 +124,22 @@ module _ {M : Type 1} (𝓤 : URA M) (H : Heap 𝓤) (A : Atoms 𝓤) (W : Given
 
   -- the parameters' machine values
   abbrev at : Vals apply-at.signature κs
-  at =
-      (ptr-vals (a .0), (EL.vals D.the-type D′.the-laws (a .1 .0), (LL.vals K.the-type K′.the-laws (a .1 .1 .0), (uint-vals w64 i, (LL.vals O.the-type O′.the-laws (a .1 .1 .1 .1 .0),
-      (ptr-vals (a .1 .1 .1 .1 .1 .0), (ptr-vals (a .1 .1 .1 .1 .1 .1 .0), (ptr-vals (a .1 .1 .1 .1 .1 .1 .1 .0), (ptr-vals (a .1 .1 .1 .1 .1 .1 .1 .1 .0), (ptr-vals (a .1 .1 .1 .1 .1 .1 .1 .1 .1 .0), tt))))))))))
+  at = (
+    ptr-vals (a .0),
+    (
+      EL.vals D.the-type D′.the-laws (a .1 .0),
+      (
+        LL.vals K.the-type K′.the-laws (a .1 .1 .0),
+        (
+          uint-vals w64 i,
+          (
+            LL.vals O.the-type O′.the-laws (a .1 .1 .1 .1 .0),
+            (ptr-vals (a .1 .1 .1 .1 .1 .0), (ptr-vals (a .1 .1 .1 .1 .1 .1 .0), (ptr-vals (a .1 .1 .1 .1 .1 .1 .1 .0), (ptr-vals (a .1 .1 .1 .1 .1 .1 .1 .1 .0), (ptr-vals (a .1 .1 .1 .1 .1 .1 .1 .1 .1 .0), tt))))),
+          ),
+        ),
+      ),
+    ),
+  )
 
   abbrev Post : Val → SProp 𝓤
   Post = walkOf 𝓤 H A apply-at.ended stayed (apply-at.clauses 𝓤 H A mem′ run) .post ((κs, qs, tt, a, at), tt)
@@ -155,7 +168,7 @@ module _ {M : Type 1} (𝓤 : URA M) (H : Heap 𝓤) (A : Atoms 𝓤) (W : Given
 
   kept-back : ent 𝓤 (sem 𝓤 H A (owns (typesAt passed κs) (a .1) (at .1))) (LeftOf as-came)
   kept-back =
-      qed W (‵ (owns (typesAt passed κs) (a .1) (at .1)) ∷ []) ∵ fsplit ! $ drop ! $ fsplit ! $ drop ! $ fsplit ! $ drop ! $ fsplit ! $ drop ! $ fsplit ! $ drop ! $ fsplit ! $ drop ! $ fsplit ! $ drop ! $ 
+      qed W (‵ (owns (typesAt passed κs) (a .1) (at .1)) ∷ []) ∵ fsplit ! $ drop ! $ fsplit ! $ drop ! $ fsplit ! $ drop ! $ fsplit ! $ drop ! $ fsplit ! $ drop ! $ fsplit ! $ drop ! $ fsplit ! $ drop ! $
       fsplit ! $ fsplit3 ! $ drop ! $ use1 W (‵ (fres (a .1 .1 .1 .1 .1 .1 .1 .1 .0 .name) _)) (W .names .obs-res _ _) $ move ! (0 ∷ 2 ∷ []) $
       -- [the ledger's last value; what `issued` owns; …]
       move ! (1 ∷ []) $ fsplit ! $ fsplit3 ! $ drop ! $ use1 W (‵ (fres (a .1 .1 .1 .1 .1 .1 .1 .1 .1 .0 .name) _)) (W .names .obs-res _ _) $ move ! (0 ∷ 2 ∷ 3 ∷ []) $ fjoin ! $
@@ -250,8 +263,22 @@ module _ {M : Type 1} (𝓤 : URA M) (H : Heap 𝓤) (A : Atoms 𝓤) (W : Given
   apply-at-walks C Λ fm known =
       walked 𝓤 H A apply-at.ended stayed (apply-at.clauses 𝓤 H A mem′ run) (WpFn 𝓤 H C Λ code.function)
       (λ κs. (ptr-vals, (EL.vals D.the-type D′.the-laws, (LL.vals K.the-type K′.the-laws, (uint-vals w64, (LL.vals O.the-type O′.the-laws, (ptr-vals, (ptr-vals, (ptr-vals, (ptr-vals, (ptr-vals, tt)))))))))))
-      (λ κs. (mut-tells (named 0) (κs .0) Rs, (EL.tells D.the-type D′.the-laws, (LL.tells K.the-type K′.the-laws, (uint-tells w64, (LL.tells O.the-type O′.the-laws,
-      ((λ x vs p. p .0), ((λ x vs p. p .0), ((λ x vs p. p .0), ((λ x vs p. p .0), ((λ x vs p. p .0), tt)))))))))))
+      (λ κs. (
+        mut-tells (named 0) (κs .0) Rs,
+        (
+          EL.tells D.the-type D′.the-laws,
+          (
+            LL.tells K.the-type K′.the-laws,
+            (
+              uint-tells w64,
+              (
+                LL.tells O.the-type O′.the-laws,
+                ((λ x vs p. p .0), ((λ x vs p. p .0), ((λ x vs p. p .0), ((λ x vs p. p .0), ((λ x vs p. p .0), tt))))),
+              ),
+            ),
+          ),
+        ),
+      ))
       (λ κs qs bounds a _ are. via 𝓤 _ (fst∗ 𝓤 _ (emp 𝓤)) (walk 𝓤 H A W mem′ run κs qs a (are .1 .0) (are .1 .1 .0) (are .1 .1 .1 .0 .1) (are .1 .1 .1 .1 .0) C Λ fm known))
 
 apply-at-meets : {M : Type 1} (𝓤 : URA M) (H : Heap 𝓤) (A : Atoms 𝓤) → Given 𝓤 H A → (mem′ : Memory → SProp 𝓤) (run : Routine → Fun 𝓤) (𝓣 : Tables 𝓤 H) → Triple 𝓤 (𝓣 .C #apply-in) (ApplyIn 𝓤 H A mem′ run)
