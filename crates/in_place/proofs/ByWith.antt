@@ -1,6 +1,6 @@
 -- `fn g_by(all: [Replica; 7], x: usize, c: G) -> [Replica; 7] { let mut replicas = all; g_at(&mut replicas, x, c); replicas }`, once for every function g_at: `AtWith`'s G and f, and g for the key of g_at.
---     by f         g_by's contract:   ensures { λ r. ⌜ r ≡ changedAt (λ p. f p c) x all ⌝ }
---     by-thin g    g_by's MIR.        by-meets     where the entry g of a table meets `at f`, `by-thin g` meets `by f`
+--     by-clauses f     g_by's contract:   ensures { λ r. ⌜ r ≡ changedAt (λ p. f p c) x all ⌝ }
+--     by-thin g    g_by's MIR.        by-meets     where the entry g of a table meets `at-clauses f`, `by-thin g` meets `by-clauses f`
 -- A local array is lent as `&mut` for a lifetime that is made for the call, and comes back. Assumes `Given`.
 use mathlib.Core.Path.{_≡_, refl, subst}
 use Prim.Native.Nat.{ℕ, _<_, _^_}
@@ -14,7 +14,7 @@ use base.Fml.{GName, ftrue, flft, fat, flent}
 use prog.Wp.{Heap, Calls, Loops, WpFn, Tables}
 use ghost.Atoms.{Atoms, sem}
 use contract.Monad.{fact}
-use types.Kit.{Given, ‵, raw, _⊛_, some, later, _$_, _∵_, !, qed, by, move, keep, drop, use1, use2, use3, split, join, pick, fsplit, fjoin, suffices, frame, await, done}
+use types.Kit.{Given, ‵, raw, _⊛_, some, later, _$_, _∵_, !, qed, by, move, keep, use1, use2, use3, split, join, pick, fsplit, fjoin, suffices, frame, await, done}
 use types.Run.{look, init, forget, stop, from, load, addr, of-opd, and-then, no-more, assigns, land, returns, enter, alloc1, alloc0, params1, pass1, pass0, free1, free0}
 use types.SemTy.{Body}
 use types.Tokens.{lft-new, lft-end}

@@ -3,7 +3,7 @@
 --     lent f       the contract of g_in:  fn g_in(r: &mut Replica)         ensures { λ _. ⌜ now (r .exit) ≡ f (now (r .entry)) ⌝ }
 --     thin g       the MIR of g_in, at the key of g
 --     thin-meets   where the entry g of a table meets `step f`, `thin g` meets `lent f`
--- A proof of g_in cites `thin-meets` at its f and its g: its own signature, clauses and MIR are those here by computation.
+-- A proof of g_in cites `thin-meets` at its f and its g, and says by two `refl` that its code is `thin g` and its promise `lent f`.
 -- Assumes `Given`.
 use mathlib.Core.Path.{_≡_, refl, subst}
 use Prim.Native.Nat.{ℕ}
@@ -27,7 +27,7 @@ use denote.Memory.{mem, pointee}
 use denote.Builtin.{unit, RefMutOf}
 use denote.Exit.{yes}
 use denote.Ref.{RefT, MutRef, now, ptr-vals, mut-tells}
-use denote.Signature.{Signature, plain}
+use denote.Signature.{plain}
 use denote.Steps.{opens, closes, peeks, heard, nothing}
 use denote.Struct.Steps.{spelt}
 use denote.Struct.Laws as LL

@@ -25,7 +25,7 @@ use denote.Memory.{mem, pointee}
 use denote.Builtin.{unit, RefMutOf}
 use denote.Exit.{yes}
 use denote.Ref.{RefT, MutRef, now, ptr-vals, mut-tells}
-use denote.Signature.{Signature, plain}
+use denote.Signature.{plain}
 use denote.Steps.{opens, closes, owned, peeks, heard, nothing}
 use denote.Struct.Steps.{spelt}
 use denote.Struct.Laws as LL
