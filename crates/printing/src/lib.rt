@@ -16,28 +16,28 @@ use room::Roles;
 use terms::Condition;
 
 // A number of 32 bits as one of 64.
-fn wide(n: u32) -> u64
+pub fn wide(n: u32) -> u64
     ensures { λ r. ⌜ r ≡ n ⌝ }
 {
     n as u64
 }
 
 // A count as a number.
-fn long(n: usize) -> u64
+pub fn long(n: usize) -> u64
     ensures { λ r. ⌜ r ≡ n ⌝ }
 {
     n as u64
 }
 
 // A number as a count.
-fn index(n: u32) -> usize
+pub fn index(n: u32) -> usize
     ensures { λ r. ⌜ r ≡ n ⌝ }
 {
     n as usize
 }
 
 // The lesser of two counts.
-fn lesser(a: usize, b: usize) -> usize
+pub fn lesser(a: usize, b: usize) -> usize
     ensures { λ r. ⌜ r ≡ min a b ⌝ }
 {
     if a < b {
@@ -47,7 +47,7 @@ fn lesser(a: usize, b: usize) -> usize
 }
 
 // A number after a space.
-fn put_next(out: &mut [u8], at: usize, n: u64) -> usize
+pub fn put_next(out: &mut [u8], at: usize, n: u64) -> usize
     ensures { λ r. ⌜ Lays (now (out .entry)) at (spaced n) r (now (out .exit)) ⌝ }
 {
     let a = text::put_byte(out, at, 32);
@@ -123,7 +123,7 @@ fn put_requests(out: &mut [u8], at: usize, list: &[u32]) -> usize
 }
 
 // A replica's number and condition.
-fn put_name(out: &mut [u8], at: usize, x: usize, condition: Condition) -> usize
+pub fn put_name(out: &mut [u8], at: usize, x: usize, condition: Condition) -> usize
     ensures { λ r. ⌜ Lays (now (out .entry)) at (replicaName x condition) r (now (out .exit)) ⌝ }
 {
     let a = text::put_word(out, at, b"replica");
@@ -268,7 +268,7 @@ fn put_replicas(
 // ---- the whole
 
 // The line of the late tick, or of none.
-fn put_late(out: &mut [u8], at: usize, late: bool, due: u64) -> usize
+pub fn put_late(out: &mut [u8], at: usize, late: bool, due: u64) -> usize
     ensures { λ r. ⌜ Lays (now (out .entry)) at (lateText late due) r (now (out .exit)) ⌝ }
 {
     let a = text::put_word(out, at, b"late");

@@ -1,0 +1,4 @@
+pub mod Pieces
+pub mod RoomLines
+pub mod RoomText
+pub mod RoomTextLaws

@@ -1,0 +1,104 @@
+-- The lines that show a room, from the parts that the player keeps, whatever is in them. Laws: RoomTextLaws, where the parts are a room's
+-- of the rules. Assumes nothing.
+use mathlib.Core.Bool.{Bool, true}
+use mathlib.Core.List.{List, [], _∷_, _++_}
+use Prim.Native.Nat.{ℕ, suc, _-_, min}
+use lib.ListN.{getD, take}
+use lib.Dec.{eqb, ltb}
+use Rattle.terms.specs.Lists.{pick}
+use Rattle.terms.specs.declared.Condition.{Condition}
+use Rattle.terms.specs.declared.Condition.the-variants.{Running, Halted, Closed, Faulty}
+use Rattle.terms.specs.declared.ContentChoice.{ContentChoice}
+use Rattle.terms.specs.declared.ContentChoice.the-variants as ContentChoice
+use Rattle.text.specs.Text.{decimal}
+use Rattle.rules.specs.Table.{ag, up, sw}
+use Rattle.ledger.specs.Ledger.{Places, totalOf, lookUp}
+use Rattle.replica.specs.declared.Replica.{Replica}
+use Rattle.replica.specs.Record.{freshRecord}
+use Rattle.room.specs.declared.Desk.{Desk}
+use Rattle.room.specs.declared.Roles.{Roles}
+use Rattle.printing.specs.Lines.{linesFrom}
+use Rattle.printing.specs.PlayLines.{notedShown, heldShown}
+use Rattle.room_lines.specs.Pieces.{dash, eventText, submissionText, submittedText, historyText, contentText, counterText, recordText}
+
+-- ---- the event, submissions, histories
+
+-- the answer to event n, counted from 1; there are 4,096 at the most
+unfoldable pub answerIn : List ℕ → ℕ → List ℕ
+answerIn answers n = pick (eqb n 0) dash (pick (ltb 4096 n) dash (decimal (getD answers (n - 1) 0)))
+
+abbrev pub submissionAt : List ℕ → List ℕ → ℕ → List ℕ
+submissionAt requests ticks i = submissionText (getD requests i 0) (getD ticks i 0)
+
+unfoldable pub submittedLine : List ℕ → List ℕ → ℕ → List ℕ
+submittedLine requests ticks n = submittedText (linesFrom 0 (min n 64) (submissionAt requests ticks))
+
+abbrev pub historyAt : List (List ℕ) → List (List ℕ) → ℕ → List ℕ
+historyAt heads lists h =
+    historyText h (getD (getD heads h []) 0 0) (getD (getD heads h []) 1 0) (take (getD (getD heads h []) 2 0) (getD lists h []))
+
+unfoldable pub historyLines : List (List ℕ) → List (List ℕ) → ℕ → List ℕ
+historyLines heads lists n = linesFrom 0 (min n 8) (historyAt heads lists)
+
+-- ---- counters
+
+-- nothing where no content stands
+abbrev pub choiceText : ContentChoice → List ℕ
+choiceText ContentChoice.Refused = []
+choiceText (ContentChoice.Content c) = contentText c
+
+-- the content after the first i
+abbrev pub contentAtPlace : List Places → List ℕ → ℕ → ℕ → ℕ → List ℕ
+contentAtPlace ledger issued x name i = choiceText (lookUp ledger issued x name (suc i))
+
+unfoldable pub contentsIn : List Places → List ℕ → ℕ → ℕ → ℕ → List ℕ
+contentsIn ledger issued x name n = linesFrom 0 (min n 96) (contentAtPlace ledger issued x name)
+
+unfoldable pub counterLine : List Places → List ℕ → ℕ → ℕ → List ℕ
+counterLine ledger issued x name =
+    counterText x name (totalOf issued x name) (contentsIn ledger issued x name (totalOf issued x name))
+
+-- the three counters of replica x
+unfoldable pub countersAt : List Places → List ℕ → ℕ → List ℕ
+countersAt ledger issued x = counterLine ledger issued x ag ++ (counterLine ledger issued x up ++ counterLine ledger issued x sw)
+
+unfoldable pub counterLines : List Places → List ℕ → ℕ → List ℕ
+counterLines ledger issued size = linesFrom 0 (min size 7) (countersAt ledger issued)
+
+-- ---- replicas
+
+-- the line of replica x with this record, which has settled this list
+unfoldable pub recordLine : ℕ → Condition → Replica → List ℕ → List ℕ
+recordLine x condition p list =
+    recordText x condition (p .mark) (p .holding) (p .held) (take (p .count) (p .noted)) (take (p .pairs) (p .marks))
+    (λ c. getD (p .accepted) c 0) list
+
+module _ (leader : ℕ) (table : List ℕ) (heads lists : List (List ℕ)) (issued : List ℕ) (x : ℕ) (p : Replica) where
+  -- by its condition: of a faulty one a fresh record is shown
+  abbrev pub standingIn : Condition → List ℕ
+  standingIn Running = recordLine x Running p (notedShown leader table issued x p)
+  standingIn Halted = recordLine x Halted p (notedShown leader table issued x p)
+  standingIn Closed = recordLine x Closed p (heldShown heads lists p)
+  standingIn Faulty = recordLine x Faulty (freshRecord true) []
+
+  unfoldable pub standingLine : List ℕ
+  standingLine = standingIn (p .condition)
+
+-- the line of replica x
+abbrev pub standingAt : ℕ → List ℕ → List (List ℕ) → List (List ℕ) → List ℕ → List Replica → ℕ → List ℕ
+standingAt leader table heads lists issued replicas x = standingLine leader table heads lists issued x (getD replicas x (freshRecord true))
+
+-- one line for each replica
+unfoldable pub standingLines : List Replica → Roles → List ℕ → List (List ℕ) → List (List ℕ) → List ℕ → List ℕ
+standingLines replicas roles table heads lists issued =
+    linesFrom 0 (min (roles .size) 7) (standingAt (roles .leader) table heads lists issued replicas)
+
+-- ---- the whole
+
+-- the room after n events
+unfoldable pub roomLines : List ℕ → ℕ → Desk → List Replica → Roles → List ℕ → List ℕ → List ℕ → List (List ℕ) → List (List ℕ) → List Places → List ℕ → List ℕ
+roomLines answers n desk replicas roles table requests ticks heads lists ledger issued =
+    eventText n (desk .clock) (answerIn answers n) (desk .late) (desk .due)
+    ++ (submittedLine requests ticks (desk .submitted)
+    ++ (historyLines heads lists (desk .histories)
+    ++ (counterLines ledger issued (roles .size) ++ standingLines replicas roles table heads lists issued)))
