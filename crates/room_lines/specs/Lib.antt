@@ -1,3 +1,4 @@
+pub mod PieceLaws
 pub mod Pieces
 pub mod RoomLines
 pub mod RoomText

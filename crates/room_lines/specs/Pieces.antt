@@ -34,14 +34,16 @@ numbered text i (a ∷ l) = text i a ++ numbered text (suc i) l
 
 -- ---- the event
 
--- "event" with its number, "clock", "answer", and the late tick or none
+-- "event" with its number, "clock" with the tick
+unfoldable pub clockText : ℕ → ℕ → List ℕ
+clockText n clock =
+    (0x65 ∷ 0x76 ∷ 0x65 ∷ 0x6e ∷ 0x74 ∷ []) ++ (spaced n ++ ((0x20 ∷ 0x63 ∷ 0x6c ∷ 0x6f ∷ 0x63 ∷ 0x6b ∷ []) ++ spaced clock))
+
+-- then "answer", and the late tick or none
 unfoldable pub eventText : ℕ → ℕ → List ℕ → Bool → ℕ → List ℕ
 eventText n clock answer late due =
-    (0x65 ∷ 0x76 ∷ 0x65 ∷ 0x6e ∷ 0x74 ∷ [])
-    ++ (spaced n
-    ++ ((0x20 ∷ 0x63 ∷ 0x6c ∷ 0x6f ∷ 0x63 ∷ 0x6b ∷ [])
-    ++ (spaced clock
-    ++ ((0x20 ∷ 0x61 ∷ 0x6e ∷ 0x73 ∷ 0x77 ∷ 0x65 ∷ 0x72 ∷ 0x20 ∷ []) ++ (answer ++ ((32 ∷ []) ++ lateText late due))))))
+    clockText n clock
+    ++ ((0x20 ∷ 0x61 ∷ 0x6e ∷ 0x73 ∷ 0x77 ∷ 0x65 ∷ 0x72 ∷ 0x20 ∷ []) ++ (answer ++ ((32 ∷ []) ++ lateText late due)))
 
 -- ---- submissions
 
@@ -108,11 +110,15 @@ standingText x condition settled mark =
     ++ ((0x20 ∷ 0x73 ∷ 0x65 ∷ 0x74 ∷ 0x74 ∷ 0x6c ∷ 0x65 ∷ 0x64 ∷ 0x3d ∷ [])
     ++ (decimal settled ++ ((0x20 ∷ 0x6d ∷ 0x61 ∷ 0x72 ∷ 0x6b ∷ 0x3d ∷ []) ++ decimal mark)))
 
--- the line of a replica: then "held=", "noted=", "pairmarks=", "accepted=" and "list=" with the requests that it has settled
+-- what it keeps: "held=", "noted=", "pairmarks=", "accepted="
+unfoldable pub keptText : Bool → ℕ → List ℕ → List ℕ → (ℕ → ℕ) → List ℕ
+keptText holding held noted marks accepted =
+    heldText holding held
+    ++ (((0x20 ∷ 0x6e ∷ 0x6f ∷ 0x74 ∷ 0x65 ∷ 0x64 ∷ 0x3d ∷ []) ++ listed noted)
+    ++ (((0x20 ∷ 0x70 ∷ 0x61 ∷ 0x69 ∷ 0x72 ∷ 0x6d ∷ 0x61 ∷ 0x72 ∷ 0x6b ∷ 0x73 ∷ 0x3d ∷ []) ++ listed marks) ++ acceptedText accepted))
+
+-- the line of a replica: how it stands, what it keeps, and "list=" with the requests that it has settled
 unfoldable pub recordText : ℕ → Condition → ℕ → Bool → ℕ → List ℕ → List ℕ → (ℕ → ℕ) → List ℕ → List ℕ
 recordText x condition mark holding held noted marks accepted list =
     standingText x condition (length list) mark
-    ++ (heldText holding held
-    ++ (((0x20 ∷ 0x6e ∷ 0x6f ∷ 0x74 ∷ 0x65 ∷ 0x64 ∷ 0x3d ∷ []) ++ listed noted)
-    ++ (((0x20 ∷ 0x70 ∷ 0x61 ∷ 0x69 ∷ 0x72 ∷ 0x6d ∷ 0x61 ∷ 0x72 ∷ 0x6b ∷ 0x73 ∷ 0x3d ∷ []) ++ listed marks)
-    ++ (acceptedText accepted ++ (((0x20 ∷ 0x6c ∷ 0x69 ∷ 0x73 ∷ 0x74 ∷ 0x3d ∷ []) ++ listed list) ++ newline)))))
+    ++ (keptText holding held noted marks accepted ++ (((0x20 ∷ 0x6c ∷ 0x69 ∷ 0x73 ∷ 0x74 ∷ 0x3d ∷ []) ++ listed list) ++ newline))

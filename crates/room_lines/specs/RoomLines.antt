@@ -19,7 +19,7 @@ use Rattle.room.specs.declared.Desk.{Desk}
 use Rattle.room.specs.declared.Roles.{Roles}
 use Rattle.printing.specs.Lines.{linesFrom}
 use Rattle.printing.specs.PlayLines.{notedShown, heldShown}
-use Rattle.room_lines.specs.Pieces.{dash, eventText, submissionText, submittedText, historyText, contentText, counterText, recordText}
+use Rattle.room_lines.specs.Pieces.{dash, eventText, submissionText, submittedText, historyText, contentText, counterText, keptText, recordText}
 
 -- ---- the event, submissions, histories
 
@@ -30,8 +30,11 @@ answerIn answers n = pick (eqb n 0) dash (pick (ltb 4096 n) dash (decimal (getD 
 abbrev pub submissionAt : List ℕ → List ℕ → ℕ → List ℕ
 submissionAt requests ticks i = submissionText (getD requests i 0) (getD ticks i 0)
 
+unfoldable pub submissionsIn : List ℕ → List ℕ → ℕ → List ℕ
+submissionsIn requests ticks n = linesFrom 0 (min n 64) (submissionAt requests ticks)
+
 unfoldable pub submittedLine : List ℕ → List ℕ → ℕ → List ℕ
-submittedLine requests ticks n = submittedText (linesFrom 0 (min n 64) (submissionAt requests ticks))
+submittedLine requests ticks n = submittedText (submissionsIn requests ticks n)
 
 abbrev pub historyAt : List (List ℕ) → List (List ℕ) → ℕ → List ℕ
 historyAt heads lists h =
@@ -66,6 +69,11 @@ unfoldable pub counterLines : List Places → List ℕ → ℕ → List ℕ
 counterLines ledger issued size = linesFrom 0 (min size 7) (countersAt ledger issued)
 
 -- ---- replicas
+
+-- what a record keeps
+unfoldable pub keptIn : Replica → List ℕ
+keptIn p =
+    keptText (p .holding) (p .held) (take (p .count) (p .noted)) (take (p .pairs) (p .marks)) (λ c. getD (p .accepted) c 0)
 
 -- the line of replica x with this record, which has settled this list
 unfoldable pub recordLine : ℕ → Condition → Replica → List ℕ → List ℕ

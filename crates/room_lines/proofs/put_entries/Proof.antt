@@ -1,0 +1,31 @@
+-- `put_entries`: those from entry c on are still to come. Assumes nothing.
+use borrow.Author.Needs.{needs}
+use mathlib.Core.Path.{refl, _∙_}
+use mathlib.Core.List.{[]}
+use Prim.Native.Nat.{_-_}
+use mathlib.Core.Bool.{false}
+use lib.ListN.{getD}
+use native.Mathlib.Omega.{arith}
+use Rattle.text.specs.TextLaws.{lays-as, then-lays}
+use Rattle.printing.specs.LinesLaws.{Rest, rest-start, rest-next, rest-over}
+use Rattle.room_lines.specs.Pieces.{entriesFrom}
+use Rattle.room_lines.specs.PieceLaws.{entries-next, entries-over}
+use Rattle.room_lines.proofs.put_entries.Statement.{statement}
+use Rattle.room_lines.proofs.put_entries.Tie as tie
+
+abbrev Inv-loop : tie.InvT-loop
+Inv-loop out₀ at accepted place₀ begun₀ c₀ out place begun c =
+    Rest out₀ at (entriesFrom (λ k. getD accepted k 0) false 0 21) out place (entriesFrom (λ k. getD accepted k 0) begun c (21 - c))
+
+abbrev μ-loop : tie.MeasureT-loop
+μ-loop out₀ at accepted place₀ begun₀ c₀ out place begun c = 21 - c
+
+pub put-entries-spec : {M : Type 1} → statement M
+put-entries-spec =
+    tie.close
+    (tie.spec Inv-loop μ-loop
+    (λ c. rest-start _ _ refl) (λ c. search needs) (λ c. search needs) (λ c κs. search needs) (λ c κs. search needs) (λ c. search needs) (λ c. search needs)
+    (λ c. rw (c .begins .ensures) (rest-next (c .before .before .before .before .before .before .before .loop .inv) (entries-next _ _ _ _ (c .before .before .before .before .before .before .loop-test .taken)) (c .before .before .before .put-entry .ensures)))
+    (λ c. c .before .before .loop .inv .long)
+    (λ c. rest-over (c .before .before .loop .inv) (entries-over _ _ _ _ (c .before .loop-test .left) ∙ rw (c .if1 .taken))) (λ c κs. search needs) (λ c. search needs)
+    (λ c. rest-over (rest-next (c .before .before .before .before .before .before .loop .inv) {w = []} (entries-over _ _ _ _ (c .before .before .before .before .before .loop-test .left) ∙ rw (c .before .before .before .before .if1 .left)) (c .before .before .put-byte .ensures)) refl))

@@ -1,0 +1,20 @@
+-- `put_history`: the parts in their order. Assumes nothing.
+use borrow.Author.Needs.{needs}
+use mathlib.Core.Path.{ap}
+use Rattle.text.specs.TextLaws.{then-lays, lays-as}
+use Rattle.printing.specs.Lines.{spaced}
+use Rattle.room_lines.specs.Pieces.{historyText}
+use Rattle.room_lines.proofs.put_history.Statement.{statement}
+use Rattle.room_lines.proofs.put_history.Tie as tie
+
+pub put-history-spec : {M : Type 1} → statement M
+unfolding historyText
+put-history-spec =
+    tie.close
+    (tie.spec (λ c. search needs) (λ c κs. search needs) (λ c κs. search needs) (λ c κs. search needs) (λ c κs. search needs) (λ c κs. search needs) (λ c κs. search needs) (λ c κs. search needs) (λ c. search needs) (λ c κs. search needs) (λ c κs. search needs) (λ c. search needs)
+    (λ c. then-lays (c .before .before .before .before .before .before .before .before .before .before .before .before .before .before .before .before .before .before .before .before .before .before .before .before .before .before .put-word .ensures)
+    (then-lays (lays-as (c .before .before .before .before .before .before .before .before .before .before .before .before .before .before .before .before .before .before .before .before .before .put-next .ensures) (ap spaced (c .before .before .before .before .before .before .before .before .before .before .before .before .before .before .before .before .before .before .before .before .before .before .long .ensures)))
+    (then-lays (lays-as (c .before .before .before .before .before .before .before .before .before .before .before .before .before .before .before .before .put-next2 .ensures) (ap spaced (c .before .before .before .before .before .before .before .before .before .before .before .before .before .before .before .before .before .long2 .ensures)))
+    (then-lays (lays-as (c .before .before .before .before .before .before .before .before .before .before .before .put-next3 .ensures) (ap spaced (c .before .before .before .before .before .before .before .before .before .before .before .before .long3 .ensures)))
+    (then-lays (c .before .before .before .before .before .before .put-part .ensures)
+    (c .before .before .put-byte .ensures)))))))
