@@ -50,7 +50,7 @@ module _ (kit : Kit) (r : Room) (b : Bounds kit r) where
       rw (total-laid (r .counter) x ag below (omega arith))
       (settled-laid kit (r .replica x) (size-max (b .good)) x (length (r .counter x ag)) (leader-max (b .good)))
 
-  noted-said : (x : ℕ) → x < 7
+  pub noted-said : (x : ℕ) → x < 7
       → notedShown (kit .leader) (layTable kit) (layIssued (r .counter)) x (layReplica (r .replica x))
       ≡ settledNoted kit x (r .replica x) (length (r .counter x ag))
   unfolding notedShown settledNoted
@@ -63,7 +63,7 @@ module _ (kit : Kit) (r : Room) (b : Bounds kit r) where
       let below : h < 8 = omega (arith, nth-lt (r .histories) h e, b .histories-filed, b .filed-max) in
       rw (lt-ltb h 8 below, head-laid (r .histories) h below, list-laid (r .histories) h below, e) (take-pad 64 (f .list))
 
-  held-said : (p : Rules.Replica) → heldShown (layHeads (r .histories)) (layLists (r .histories)) (layReplica p) ≡ heldList r (p .held)
+  pub held-said : (p : Rules.Replica) → heldShown (layHeads (r .histories)) (layLists (r .histories)) (layReplica p) ≡ heldList r (p .held)
   unfolding heldShown layReplica heldList
   held-said p = by-held (p .held)
     where

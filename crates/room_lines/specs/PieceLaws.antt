@@ -1,5 +1,5 @@
 -- Laws of Pieces: lists from a place on, entries from one on, numbered lists as lines. Assumes nothing.
-use mathlib.Core.Path.{_≡_, refl, ap, _∙_}
+use mathlib.Core.Path.{_≡_, refl}
 use mathlib.Core.Bool.{Bool, not, _||_}
 use mathlib.Core.Option.{some}
 use mathlib.Core.List.{List, [], _∷_, _++_}
@@ -55,10 +55,14 @@ entries-ext (suc m) c f g begun e =
 
 -- ---- numbered lists
 
--- lines of which each is an element's
-pub lines-numbered {ℓ} : {A : Type ℓ} (l : List A) (i : ℕ) (line : ℕ → List ℕ) (text : ℕ → A → List ℕ)
+-- lines of which each is an element's: from number i on, and from the first
+lines-numbered {ℓ} : {A : Type ℓ} (l : List A) (i : ℕ) (line : ℕ → List ℕ) (text : ℕ → A → List ℕ)
     → ((k : ℕ) (a : A) → nth l k ≡ some a → (n : ℕ) → n ≡ i + k → line n ≡ text n a) → linesFrom i (length l) line ≡ numbered text i l
 unfolding linesFrom
 lines-numbered [] i line text e = refl
 lines-numbered (a ∷ l) i line text e =
     rw (e 0 a refl i (omega arith), lines-numbered l (suc i) line text (λ k b h n d. e (suc k) b h n (omega (arith, d))))
+
+pub lines-each {ℓ} : {A : Type ℓ} (l : List A) (line : ℕ → List ℕ) (text : ℕ → A → List ℕ)
+    → ((k : ℕ) (a : A) → nth l k ≡ some a → line k ≡ text k a) → linesFrom 0 (length l) line ≡ numbered text 0 l
+lines-each l line text e = lines-numbered l 0 line text (λ k a h n d. let z : n ≡ k = omega (arith, d) in rw z (e k a h))

@@ -1,5 +1,5 @@
 -- The pieces of the lines that show a room, as bytes. Laws: PieceLaws. Assumes nothing.
-use mathlib.Core.Bool.{Bool, true, false, not, _||_}
+use mathlib.Core.Bool.{Bool, false, not, _||_}
 use mathlib.Core.List.{List, [], _∷_, _++_}
 use Prim.Native.Nat.{ℕ, zero, suc, _/_, _%_}
 use lib.ListN.{length, getD}

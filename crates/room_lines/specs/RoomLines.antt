@@ -1,7 +1,7 @@
 -- The lines that show a room, from the parts that the player keeps, whatever is in them. Laws: RoomTextLaws, where the parts are a room's
 -- of the rules. Assumes nothing.
-use mathlib.Core.Bool.{Bool, true}
-use mathlib.Core.List.{List, [], _∷_, _++_}
+use mathlib.Core.Bool.{true}
+use mathlib.Core.List.{List, [], _++_}
 use Prim.Native.Nat.{ℕ, suc, _-_, min}
 use lib.ListN.{getD, take}
 use lib.Dec.{eqb, ltb}

@@ -1,12 +1,142 @@
 -- The lines of the parts that the player keeps are the rules' where the parts are a laid-out room, and the answers are the rules'.
 -- Assumes nothing.
-use mathlib.Core.List.{List}
-use Prim.Native.Nat.{ℕ}
+use mathlib.Core.Path.{_≡_, refl, ap}
+use mathlib.Core.Bool.{true, false}
+use mathlib.Core.List.{List, []}
+use Prim.Native.Nat.{ℕ, zero, suc, _-_, _/_, _%_, _≤_, _<_, min}
+use native.Mathlib.Omega.{arith}
+use lib.ListN.{length, getD}
+use borrow.Author.Tests.{le-ltb, ne-eqb}
+use Rattle.terms.specs.Lists.{isSome}
+use Rattle.terms.specs.ListLaws.{nth-lt, nth-getD}
 use Rattle.terms.specs.Kit.{Kit}
-use Rattle.room.specs.Layout.{Parts, layRoles, layTable}
-use Rattle.room_lines.specs.RoomLines.{roomLines}
+use Rattle.terms.specs.Padding.{pad, getD-pad, take-pad}
+use Rattle.terms.specs.Tabulate.{grid, getD-tab}
+use Rattle.terms.specs.declared.Condition.{Condition}
+use Rattle.terms.specs.declared.Condition.the-variants.{Running, Halted, Closed, Faulty}
+use Rattle.rules.specs.Table.{ag, up, sw}
+use Rattle.rules.specs.Room.{Room, freshReplica}
+use Rattle.rules.specs.Room as Rules
+use Rattle.rules.specs.Reading.{settledNoted, heldList, settled}
+use Rattle.rules.specs.Play.{after}
+use Rattle.ledger.specs.LedgerLayout.{layLedger, layIssued}
+use Rattle.ledger.specs.LedgerLaws.{total-laid, look-laid}
+use Rattle.replica.specs.RecordLayout.{numberOr0, layReplica}
+use Rattle.replica.specs.RecordLaws.{fresh-laid}
+use Rattle.room.specs.Layout.{Parts, layRoles, layTable, layHeads, layLists, layDesk, layReplicas, layRoom}
+use Rattle.room.specs.LayoutLaws.{head-laid, list-laid, replica-laid}
+use Rattle.room.specs.Bounds.{Bounds}
+use Rattle.room.specs.GoodLaws.{size-max}
+use Rattle.printing.specs.Lines.{linesFrom}
+use Rattle.printing.specs.LinesLaws.{lines-ext}
+use Rattle.printing.specs.PlayTextLaws.{Says, noted-said, held-said}
+use Rattle.room_lines.specs.Pieces.{submittedText, historyText, counterText, acceptedText, keptText, recordText}
+use Rattle.room_lines.specs.PieceLaws.{entries-ext, lines-each}
+use Rattle.room_lines.specs.RoomLines.{answerIn, submissionsIn, submittedLine, historyLines, contentsIn, counterLine, countersAt, counterLines, recordLine, standingIn, standingLine, standingLines, roomLines}
+use Rattle.room_lines.specs.RoomText.{answerSaid, submittedSaid, historiesSaid, counterSaid, countersSaid, recordShown, replicaSaid, roomText}
+
+-- ---- the answer
+
+pub answer-said : (kit : Kit) (n : ℕ) → n ≤ 4096 → (clocks answers : List ℕ) → Says kit n clocks answers → answerIn answers n ≡ answerSaid kit n
+unfolding answerIn
+answer-said kit zero small clocks answers s = refl
+answer-said kit (suc k) small clocks answers s =
+    let z : suc k - 1 ≡ k = omega arith in
+    rw (ne-eqb (suc k) 0 (λ e. omega arith), le-ltb 4096 (suc k) (omega (arith, small)), z, s .answer k (omega arith))
+
+-- ---- what a record keeps
+
+accepted-said : (g : ℕ → ℕ → ℕ) → acceptedText (λ c. getD (grid g) c 0) ≡ acceptedText (λ c. g (c / 3) (c % 3))
+unfolding acceptedText grid
+accepted-said g =
+    rw (entries-ext 21 0 _ (λ c. g (c / 3) (c % 3)) false (λ k h. getD-tab 21 (λ i. g (i / 3) (i % 3)) k 0 (omega (arith, h))))
+
+record-said : (x : ℕ) (p : Rules.Replica) (c : Condition) (list : List ℕ)
+    → recordLine x c (layReplica p) list
+    ≡ recordText x c (p .mark) (isSome (p .held)) (numberOr0 (p .held)) (p .noted) (p .pairMarks) (λ e. p .accepted (e / 3) (e % 3)) list
+unfolding recordLine recordText keptText layReplica
+record-said x p c list = rw (take-pad 64 (p .noted), take-pad 64 (p .pairMarks), accepted-said (p .accepted))
+
+module _ (kit : Kit) (r : Room) (b : Bounds kit r) where
+  -- ---- submissions, histories
+
+  submissions-said : submittedLine (pad 64 (r .submitted)) (pad 64 (r .ticks)) (length (r .submitted)) ≡ submittedSaid r
+  unfolding submittedLine submissionsIn submittedSaid
+  submissions-said =
+      let m : min (length (r .submitted)) 64 ≡ length (r .submitted) = omega (arith, b .submitted-max) in
+      rw m
+      (ap submittedText
+      (lines-each (r .submitted) _ _ (λ k a e.
+      let z : getD (r .submitted) k 0 ≡ a = cc (nth-getD (r .submitted) k 0 (nth-lt (r .submitted) k e), e) in
+      rw (getD-pad 64 (r .submitted) k, getD-pad 64 (r .ticks) k, z))))
+
+  histories-said : historyLines (layHeads (r .histories)) (layLists (r .histories)) (length (r .histories)) ≡ historiesSaid r
+  unfolding historyLines historiesSaid
+  histories-said =
+      let few : length (r .histories) ≤ 8 = omega (arith, b .histories-filed, b .filed-max) in
+      let m : min (length (r .histories)) 8 ≡ length (r .histories) = omega (arith, few) in
+      rw m
+      (lines-each (r .histories) _ _ (λ k a e.
+      let below : k < 8 = omega (arith, few, nth-lt (r .histories) k e) in
+      rw (head-laid (r .histories) k below, list-laid (r .histories) k below, e) (ap (historyText k (a .j) (a .k)) (take-pad 64 (a .list)))))
+
+  -- ---- counters
+
+  counter-said : (x name : ℕ) → x < 7 → name < 3 → counterLine (layLedger (r .counter)) (layIssued (r .counter)) x name ≡ counterSaid r x name
+  unfolding counterLine contentsIn counterSaid
+  counter-said x name below named =
+      let l = r .counter x name in
+      let few = b .counter-max x name in
+      let m : min (length l) 96 ≡ length l = omega (arith, few) in
+      rw (total-laid (r .counter) x name below named, m)
+      (ap (counterText x name (length l))
+      (lines-each l _ _ (λ k a e. rw (look-laid (r .counter) x name below named (suc k) few, e))))
+
+  counters-said : counterLines (layLedger (r .counter)) (layIssued (r .counter)) (length (kit .table)) ≡ linesFrom 0 (length (kit .table)) (countersSaid r)
+  unfolding counterLines countersAt countersSaid
+  counters-said =
+      let m : min (length (kit .table)) 7 ≡ length (kit .table) = omega (arith, size-max (b .good)) in
+      rw m
+      (lines-ext (length (kit .table)) 0 _ _ (λ x h.
+      let below : x < 7 = omega (arith, h, size-max (b .good)) in
+      rw (counter-said x ag below (omega arith), counter-said x up below (omega arith), counter-said x sw below (omega arith))))
+
+  -- ---- replicas
+
+  line-said : (x : ℕ) → x < 7 → (c : Condition) → r .replica x .condition ≡ c
+      → standingIn (kit .leader) (layTable kit) (layHeads (r .histories)) (layLists (r .histories)) (layIssued (r .counter)) x (layReplica (r .replica x)) c
+      ≡ replicaSaid kit r x
+  unfolding replicaSaid recordShown settled freshReplica
+  line-said x below Running e = rw (noted-said kit r b x below, record-said x (r .replica x) Running (settledNoted kit x (r .replica x) (length (r .counter x ag))), e)
+  line-said x below Halted e = rw (noted-said kit r b x below, record-said x (r .replica x) Halted (settledNoted kit x (r .replica x) (length (r .counter x ag))), e)
+  line-said x below Closed e = rw (held-said kit r b (r .replica x), record-said x (r .replica x) Closed (heldList r (r .replica x .held)), e)
+  line-said x below Faulty e = let f = fresh-laid true in rw (← f, record-said x (freshReplica true) Faulty [], e)
+
+  standing-said : (x : ℕ) → x < 7
+      → standingLine (kit .leader) (layTable kit) (layHeads (r .histories)) (layLists (r .histories)) (layIssued (r .counter)) x (layReplica (r .replica x))
+      ≡ replicaSaid kit r x
+  unfolding standingLine layReplica
+  standing-said x below = line-said x below (r .replica x .condition) refl
+
+  standings-said : standingLines (layReplicas (r .replica)) (layRoles kit) (layTable kit) (layHeads (r .histories)) (layLists (r .histories)) (layIssued (r .counter))
+      ≡ linesFrom 0 (length (kit .table)) (replicaSaid kit r)
+  unfolding standingLines layRoles
+  standings-said =
+      let m : min (length (kit .table)) 7 ≡ length (kit .table) = omega (arith, size-max (b .good)) in
+      rw m
+      (lines-ext (length (kit .table)) 0 _ _ (λ x h.
+      let below : x < 7 = omega (arith, h, size-max (b .good)) in rw (replica-laid (r .replica) x _ below) (standing-said x below)))
+
+-- ---- the whole
 
 -- the lines of a kit's room after n events, from the parts that the player keeps
 abbrev pub partsRoom : Kit → ℕ → List ℕ → Parts → List ℕ
 partsRoom kit n answers p =
     roomLines answers n (p .desk) (p .replicas) (layRoles kit) (layTable kit) (p .requests) (p .ticks) (p .heads) (p .lists) (p .ledger) (p .issued)
+
+pub room-said : (kit : Kit) (n : ℕ) → n ≤ 4096 → Bounds kit (after kit n) → (clocks answers : List ℕ) → Says kit n clocks answers
+    → (known : ℕ) → partsRoom kit n answers (layRoom (after kit n) known) ≡ roomText kit n
+unfolding roomLines roomText layRoom layDesk layRoles
+room-said kit n small b clocks answers s known =
+    let r = after kit n in
+    rw (answer-said kit n small clocks answers s, submissions-said kit r b, histories-said kit r b, counters-said kit r b, standings-said kit r b)

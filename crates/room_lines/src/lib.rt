@@ -1,14 +1,14 @@
 // The room after some events as text, in a lent buffer: the event, submissions, histories, counters, replicas. What no longer fits is left
 // out, and the place that is given back is then the buffer's end: a text that ends before it is whole.
 ghost use mathlib.Core.Path.{_≡_};
-ghost use mathlib.Core.Bool.{Bool, true, false, not, _||_};
+ghost use mathlib.Core.Bool.{true, false, not, _||_};
 ghost use mathlib.Core.List.{[], _∷_, _++_};
 ghost use lib.ListN.{take, drop, getD};
 ghost use lib.Dec.{eqb};
 ghost use Prim.Native.Nat.{_+_, _<_};
 ghost use Rattle.terms.specs.Lists.{pick};
 ghost use Rattle.terms.specs.declared.Condition.the-variants.{Closed, Faulty};
-ghost use Rattle.text.specs.Text.{Lays, decimal};
+ghost use Rattle.text.specs.Text.{Lays};
 ghost use Rattle.replica.specs.Record.{freshRecord};
 ghost use Rattle.printing.specs.PlayLines.{notedShown, heldShown};
 ghost use Rattle.room_lines.specs.Pieces.{commas, listed, clockText, eventText, submissionText, historyText, partsText, contentText, heldText, entryText, entriesFrom, acceptedText, standingText};

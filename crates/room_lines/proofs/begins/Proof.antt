@@ -1,5 +1,4 @@
 -- `begins`: begun, or begun now. Assumes nothing.
-use borrow.Author.Needs.{needs}
 use Rattle.room_lines.proofs.begins.Statement.{statement}
 use Rattle.room_lines.proofs.begins.Tie as tie
 

@@ -1,9 +1,7 @@
 -- `put_answer`: the answer, where there is one. Assumes nothing.
 use borrow.Author.Needs.{needs}
-use mathlib.Core.Path.{ap}
 use borrow.Author.Tests.{eq-eqb, ne-eqb, lt-ltb, le-ltb}
 use Rattle.text.specs.TextLaws.{lays-as}
-use Rattle.text.specs.Text.{decimal}
 use Rattle.room_lines.specs.RoomLines.{answerIn}
 use Rattle.room_lines.proofs.put_answer.Statement.{statement}
 use Rattle.room_lines.proofs.put_answer.Tie as tie

@@ -5,8 +5,6 @@ use mathlib.Core.List.{[]}
 use Prim.Native.Nat.{_-_}
 use mathlib.Core.Bool.{false}
 use lib.ListN.{getD}
-use native.Mathlib.Omega.{arith}
-use Rattle.text.specs.TextLaws.{lays-as, then-lays}
 use Rattle.printing.specs.LinesLaws.{Rest, rest-start, rest-next, rest-over}
 use Rattle.room_lines.specs.Pieces.{entriesFrom}
 use Rattle.room_lines.specs.PieceLaws.{entries-next, entries-over}

@@ -1,7 +1,6 @@
 -- `put_listed`: nothing, or the first and then the others. Assumes nothing.
 use borrow.Author.Needs.{needs}
 use mathlib.Core.Path.{ap}
-use native.Mathlib.Omega.{arith}
 use Rattle.text.specs.TextLaws.{then-lays, lays-as}
 use Rattle.text.specs.Text.{decimal}
 use Rattle.room_lines.specs.PieceLaws.{listed-none, listed-some}
