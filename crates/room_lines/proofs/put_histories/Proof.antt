@@ -26,7 +26,7 @@ put-histories-spec =
     (λ c. let s = c .before .before .before .before .before .before .before .before .before .before .loop in
     let a = c .before .before .before .before .before .before .before .before .before .before .before .before .before .args in (
       s .inv .0,
-      rest-next (s .inv .1) (lines-next (s .h) (c .before .before .before .before .before .before .before .before .before .before .before .lesser .result) (historyAt (a .heads .now) (a .lists .now)) (c .before .before .before .before .before .before .before .before .before .loop-test .taken)) (c .before .before .put-history .ensures),
+      rest-next (s .inv .1) {v = historyAt (a .heads .now) (a .lists .now) (s .h)} (lines-next (s .h) (c .before .before .before .before .before .before .before .before .before .before .before .lesser .result) (historyAt (a .heads .now) (a .lists .now)) (c .before .before .before .before .before .before .before .before .before .loop-test .taken)) (c .before .before .put-history .ensures),
     ))
     (λ c. c .before .loop .inv .1 .long)
     (λ c. lays-as (rest-over (c .before .loop .inv .1) (lines-over _ _ _ (c .loop-test .left))) (rw (c .before .before .lesser .ensures))))
