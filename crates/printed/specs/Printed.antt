@@ -30,21 +30,21 @@ unfoldable pub rolesIn : Settings → Roles
 rolesIn s =
     record { f = s .f; size = s .size; leader = s .leader; switcher = switchLeaderOf (s .table) (s .leader); patience = s .patience }
 
--- all events of a kit with these settings, from a fresh room
-unfoldable pub playedFrom : List ℕ → Settings → Left
-playedFrom bytes s =
-    playOn bytes (s .first) (s .count) (rolesIn s) (s .table) (freshReplicas (s .table)) (replicate 4096 0) (replicate 4096 0)
+-- the first n events of a kit with these settings, from a fresh room
+unfoldable pub playedFrom : List ℕ → Settings → ℕ → Left
+playedFrom bytes s n =
+    playOn bytes (s .first) n (rolesIn s) (s .table) (freshReplicas (s .table)) (replicate 4096 0) (replicate 4096 0)
     (replicate 64 0) (replicate 64 0) (replicate 8 (replicate 3 0)) (replicate 8 (replicate 64 0))
     (replicate 21 (replicate 96 (replicate 3 0))) (replicate 21 0)
 
--- the lines of what a play came to
+-- the lines of what the play of all events came to
 abbrev pub outcomeLines : Settings → Left → List ℕ
 outcomeLines s o =
     playLines (o .clocks) (o .answers) (s .count) (o .parts .desk) (o .parts .replicas) (rolesIn s) (s .table) (o .parts .heads)
     (o .parts .lists) (o .parts .issued)
 
 unfoldable pub playedText : List ℕ → List ℕ
-playedText bytes = outcomeLines (settingsIn bytes) (playedFrom bytes (settingsIn bytes))
+playedText bytes = outcomeLines (settingsIn bytes) (playedFrom bytes (settingsIn bytes) (settingsIn bytes .count))
 
 -- the play of accepted bytes, and `kit` with its number for refused ones
 unfoldable pub printedText : List ℕ → List ℕ

@@ -12,9 +12,8 @@ use Rattle.rules.specs.Room.{freshRoom}
 use Rattle.rules.specs.Play.{after}
 use Rattle.replica.specs.Record.{freshRecord}
 use Rattle.replica.specs.RecordLaws.{fresh-laid}
-use Rattle.room.specs.Layout.{layRoles, layTable, layDesk, layHeads, layLists, layReplicas, layRoom}
+use Rattle.room.specs.Layout.{layRoles, layTable, layReplicas, layRoom}
 use Rattle.room.specs.Bounds.{Bounds}
-use Rattle.ledger.specs.LedgerLayout.{layIssued}
 use Rattle.replica.specs.declared.Replica.{Replica}
 use Rattle.room.specs.declared.Roles.{Roles}
 use Rattle.kit.specs.declared.Settings.{Settings}
@@ -44,26 +43,26 @@ unfolding freshReplicas layTable layReplicas freshRoom isMarkedFaulty
 fresh-replicas-laid kit =
     tab-ext 7 _ _ (λ x h. rw (getD-pad 7 (kit .table) x, fresh-laid (marksFaulty (getD (kit .table) x 0))))
 
--- with these settings the play came to what the rules say of the kit
-pub record PlaysAs (kit : Kit) (s : Settings) (o : Left) : Type 0 where
+-- with these settings the play of n events came to what the rules say of the kit
+pub record PlaysAs (kit : Kit) (n : ℕ) (s : Settings) (o : Left) : Type 0 where
   pub roles : rolesIn s ≡ layRoles kit
   pub table : s .table ≡ layTable kit
   pub count : s .count ≡ length (kit .events)
   pub known : ℕ
-  pub desk : o .parts .desk ≡ layDesk (after kit (length (kit .events))) known
-  pub replicas : o .parts .replicas ≡ layReplicas (after kit (length (kit .events)) .replica)
-  pub heads : o .parts .heads ≡ layHeads (after kit (length (kit .events)) .histories)
-  pub lists : o .parts .lists ≡ layLists (after kit (length (kit .events)) .histories)
-  pub issued : o .parts .issued ≡ layIssued (after kit (length (kit .events)) .counter)
-  pub says : Says kit (length (kit .events)) (o .clocks) (o .answers)
+  pub parts : o .parts ≡ layRoom (after kit n) known
+  pub says : Says kit n (o .clocks) (o .answers)
 
-outcome-said : (kit : Kit) (s : Settings) (o : Left) → Bounds kit (after kit (length (kit .events))) → PlaysAs kit s o → outcomeLines s o ≡ playText kit
-unfolding playText layRoom
+outcome-said : (kit : Kit) (s : Settings) (o : Left) → Bounds kit (after kit (length (kit .events))) → PlaysAs kit (length (kit .events)) s o
+    → outcomeLines s o ≡ playText kit
+unfolding playText
 outcome-said kit s o b p =
-    rw (p .roles, p .table, p .count, p .desk, p .replicas, p .heads, p .lists, p .issued)
+    rw (p .roles, p .table, p .count, p .parts)
     (play-said kit (length (kit .events)) (b .good .event-count) b (o .clocks) (o .answers) (p .says) (p .known))
 
 pub played-said : (bytes : List ℕ) (kit : Kit) → Bounds kit (after kit (length (kit .events)))
-    → PlaysAs kit (settingsIn bytes) (playedFrom bytes (settingsIn bytes)) → playedText bytes ≡ playText kit
+    → PlaysAs kit (length (kit .events)) (settingsIn bytes) (playedFrom bytes (settingsIn bytes) (length (kit .events)))
+    → playedText bytes ≡ playText kit
 unfolding playedText
-played-said bytes kit b p = outcome-said kit (settingsIn bytes) (playedFrom bytes (settingsIn bytes)) b p
+played-said bytes kit b p =
+    ap (λ (n : ℕ). outcomeLines (settingsIn bytes) (playedFrom bytes (settingsIn bytes) n)) (p .count)
+    ∙ outcome-said kit (settingsIn bytes) (playedFrom bytes (settingsIn bytes) (length (kit .events))) b p

@@ -1,5 +1,5 @@
--- Demands 1 and 2 over what is printed: of bytes that spell a kit, the text is the play that the rules say; of all others it is `kit` and the
--- number of the first fault. Assumes nothing.
+-- Demands 1 and 2 over what is printed: of bytes that spell a kit, the first events come to what the rules say, and the text is the play that
+-- the rules say; of all others it is `kit` and the number of the first fault. Assumes nothing.
 use mathlib.Core.Path.{_≡_, refl, sym, ap, _∙_}
 use mathlib.Core.Bool.{Bool, true, false}
 use mathlib.Core.Option.{Option, none, some}
@@ -20,7 +20,7 @@ use Rattle.rules.specs.Play.{after, step, answer}
 use Rattle.replica.specs.declared.Replica.{Replica}
 use Rattle.room.specs.declared.Roles.{Roles}
 use Rattle.room.specs.Desk.{freshDesk}
-use Rattle.room.specs.Layout.{Parts, layRoles, layTable, layRoom}
+use Rattle.room.specs.Layout.{layRoles, layTable}
 use Rattle.room.specs.Reached.{reached}
 use Rattle.kit.specs.declared.Settings.{Settings}
 use Rattle.kit.specs.Reader.{checkOf, kitOf, settingsIn}
@@ -68,19 +68,20 @@ module _ (bytes : List ℕ) (kit : Kit) (spells : Spells bytes kit) where
         answers = length-replicate {A = ℕ} 4096 0;
       }
 
-  abbrev last-stage : Stage
-  last-stage = turnsFrom bytes (layRoles kit) (layTable kit) 0 (length (kit .events)) first-stage
+  -- and after the first n events
+  abbrev stage-after : ℕ → Stage
+  stage-after n = turnsFrom bytes (layRoles kit) (layTable kit) 0 n first-stage
 
-  shown : Shows bytes kit (length (kit .events)) last-stage
-  shown = player-shows bytes kit spells (length (kit .events)) (omega arith) first-stage is-fresh
+  shown : (n : ℕ) → n ≤ length (kit .events) → Shows bytes kit n (stage-after n)
+  shown n fits = player-shows bytes kit spells n fits first-stage is-fresh
 
-  played : playedFrom bytes settings ≡ leftOf last-stage
+  played : (n : ℕ) → n ≤ length (kit .events) → playedFrom bytes settings n ≡ leftOf (stage-after n)
   unfolding playedFrom playOn
-  played =
-      let few : min (length (kit .events)) eventsMax ≡ length (kit .events) = omega (arith, spells .good .event-count) in
-      rw (roles-read, table-read, read .count, few)
+  played n fits =
+      let few : min n eventsMax ≡ n = omega (arith, spells .good .event-count, fits) in
+      rw (roles-read, table-read, few)
 
-  -- the first n events of the kit, as the loop leaves them
+  -- the clocks and answers of the first n events, as the loop leaves them
   says : (n : ℕ) → n ≤ length (kit .events) → (s : Stage) → Shows bytes kit n s → Says kit n (s .clocks) (s .answers)
   unfolding answer
   says n fits s h =
@@ -89,26 +90,21 @@ module _ (bytes : List ℕ) (kit : Kit) (spells : Spells bytes kit) where
         answer = λ k l. let e = nth-in (kit .events) k (omega arith) in rw (e .1) (h .answer-at k (step kit (after kit k) (e .0) .answer) l (rw (e .1)));
       }
 
-  plays-as : PlaysAs kit settings (playedFrom bytes settings)
-  unfolding layRoom
-  plays-as =
-      let p = shown .parts in
-      rw played
+  pub plays-first : (n : ℕ) → n ≤ length (kit .events) → PlaysAs kit n settings (playedFrom bytes settings n)
+  plays-first n fits =
+      rw (played n fits)
       (record {
         roles = roles-read;
         table = table-read;
         count = read .count;
-        known = shown .known;
-        desk = ap (λ (z : Parts). z .desk) p;
-        replicas = ap (λ (z : Parts). z .replicas) p;
-        heads = ap (λ (z : Parts). z .heads) p;
-        lists = ap (λ (z : Parts). z .lists) p;
-        issued = ap (λ (z : Parts). z .issued) p;
-        says = says (length (kit .events)) (omega arith) last-stage shown;
+        known = shown n fits .known;
+        parts = shown n fits .parts;
+        says = says n fits (stage-after n) (shown n fits);
       })
 
   -- bytes that spell a kit print the play that the rules say of it
   pub play-printed : printedText bytes ≡ playText kit
   unfolding printedText
   play-printed =
-      rw (spells-accepted bytes kit spells) (played-said bytes kit (reached kit (spells .good) (length (kit .events))) plays-as)
+      rw (spells-accepted bytes kit spells)
+      (played-said bytes kit (reached kit (spells .good) (length (kit .events))) (plays-first (length (kit .events)) (omega arith)))
