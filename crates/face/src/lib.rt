@@ -7,6 +7,7 @@ ghost use Rattle.kit.specs.Reader.{checkOf};
 ghost use Rattle.text.specs.Text.{Lays};
 ghost use Rattle.printing.specs.Whole.{Counts};
 ghost use Rattle.printed.specs.Printed.{printedText};
+ghost use Rattle.room_text.specs.RoomPrinted.{printedRoom};
 ghost use Rattle.face.specs.Face.{packed, PackedWrite, PackedRead};
 use kit::writer::Outcome;
 
@@ -51,6 +52,15 @@ pub extern "C" fn play_text(bytes: &[u8], out: &mut [u8]) -> usize
     ensures { λ r. ⌜ Counts r (now (out .exit)) ⌝ }
 {
     printed::printed_play(bytes, out)
+}
+
+// The same for the printed room after the first n events.
+#[no_mangle]
+pub extern "C" fn room_text(bytes: &[u8], n: usize, out: &mut [u8]) -> usize
+    ensures { λ r. ⌜ Lays (now (out .entry)) 0 (printedRoom (now (bytes .entry)) n) r (now (out .exit)) ⌝ }
+    ensures { λ r. ⌜ Counts r (now (out .exit)) ⌝ }
+{
+    room_text::printed_room(bytes, n, out)
 }
 
 // Writes a kit that is given as its numbers. Gives 16 times the bytes that were filled in, plus the kit number.

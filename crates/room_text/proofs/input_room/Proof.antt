@@ -1,0 +1,16 @@
+-- `input_room`: by the length alone, before anything else. Assumes nothing.
+use borrow.Author.Needs.{needs}
+use borrow.Author.Tests.{lt-ltb, le-ltb}
+use Rattle.text.specs.TextLaws.{lays-as}
+use Rattle.room_text.specs.RoomPrinted.{inputRoom}
+use Rattle.room_text.proofs.input_room.Statement.{statement}
+use Rattle.room_text.proofs.input_room.Tie as tie
+
+pub input-room-spec : {M : Type 1} → statement M
+unfolding inputRoom
+input-room-spec =
+    tie.close
+    (tie.spec (λ c κs. search needs) (λ c κs. search needs) (λ c. search needs)
+    (λ c. lays-as (c .before .before .put-kit .ensures) (rw (c .before .before .before .before .number-of-kit .ensures, lt-ltb _ _ (c .before .before .before .before .before .if1 .taken))))
+    (λ c κs. search needs) (λ c. search needs)
+    (λ c. lays-as (c .before .before .printed-room .ensures .0) (rw (le-ltb _ _ (c .before .before .before .before .if1 .left)))))

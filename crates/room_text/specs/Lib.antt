@@ -1,0 +1,5 @@
+pub mod Asked
+pub mod AskedLaws
+pub mod RoomPrinted
+pub mod RoomPrintedLaws
+pub mod RoomTheorem
