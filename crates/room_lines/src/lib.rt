@@ -450,7 +450,7 @@ fn put_noted(
     let accepted = p.accepted;
     let noted = p.noted;
     let own = ledger::total(issued, x, 0);
-    let c = printing::settled_count(&accepted, table, leader, x, own);
+    let c = replica::settled_count(&accepted, table, leader, x, own);
     let n = printing::lesser(c, p.count);
     put_record(out, at, x, condition, p, &noted, n)
 }
