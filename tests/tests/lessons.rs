@@ -10,7 +10,7 @@ use std::path::PathBuf;
 const LESSONS: [&str; 5] = ["clean", "late", "switch", "faulty-leader", "faulty-switch-leader"];
 
 fn file(name: &str, kind: &str) -> Vec<u8> {
-    let path = PathBuf::from(env!("CARGO_MANIFEST_DIR")).join("lessons").join(format!("{name}.{kind}"));
+    let path = PathBuf::from(env!("CARGO_MANIFEST_DIR")).join("../kits/lessons").join(format!("{name}.{kind}"));
     fs::read(&path).unwrap_or_else(|e| panic!("{}: {e}", path.display()))
 }
 
