@@ -1,19 +1,22 @@
 #!/usr/bin/env bash
-# robust.sh COMMAND ..: what the program does when its input or its output misbehaves. The exit has to be clean (no signal, no hang; a program
-# whose reader went away may end by SIGPIPE), and what was printed has to be right as far as it goes.
-# COMMAND is kitplay's path, or a script and that path (`robust.sh tests/run.sh target/bin/kitplay`). The model says what is right.
+# robust.sh [--room] COMMAND ..: what the program does when its input, its output or its argument misbehaves. The exit has to be clean (no
+# signal, no hang; a program whose reader went away may end by SIGPIPE), and what was printed has to be right as far as it goes.
+# COMMAND is kitplay's path, or a script and that path (`robust.sh tests/run.sh target/bin/kitplay`); with --room, kitroom's. The model says
+# what is right.
 set -u
-[ $# -gt 0 ] || { echo "robust.sh COMMAND .." >&2; exit 2; }
+says=model_play
+if [ "${1:-}" = --room ]; then says=model_room; shift; fi
+[ $# -gt 0 ] || { echo "robust.sh [--room] COMMAND .." >&2; exit 2; }
 command=()
 for word in "$@"; do if [ -e "$word" ]; then command+=("$(realpath "$word")"); else command+=("$word"); fi; done
 cd "$(dirname "$0")" || exit 2
 target=${CARGO_TARGET_DIR:-target}
-[ -x "$target/release/model_play" ] && [ -x "$target/release/make_kit" ] || cargo build --release --quiet || exit 2
-model=$target/release/model_play make=$target/release/make_kit
+[ -x "$target/release/$says" ] && [ -x "$target/release/make_kit" ] || cargo build --release --quiet || exit 2
+model=$target/release/$says make=$target/release/make_kit
 room=$(mktemp -d) && trap 'rm -rf "$room"' EXIT
 failed=0 passed=0
 
-play() { timeout 60 "${command[@]}"; }
+play() { timeout 60 "${command[@]}" "$@"; }
 
 # how the program ended is clean
 clean() { # NAME STATUS [also]
@@ -39,19 +42,36 @@ begins() { # NAME STATUS GOT WANTED
     failed=$((failed + 1))
 }
 
-kit=lessons/switch.kit
+lessons=../kits/lessons
+kit=$lessons/switch.kit
 small=$room/small large=$room/large
 "$model" <$kit >"$small"
 "$make" --large 3 >"$room/large.kit" && "$model" <"$room/large.kit" >"$large"
 printf 'kit 1\n' >"$room/kit1"
 printf 'kit 9\n' >"$room/kit9"
 
-# ---- input
-for name in lessons/*.kit; do
+# ---- the lesson kits, and the argument
+for name in $lessons/*.kit; do
+    wanted=${name%.kit}.play
+    if [ $says = model_room ]; then wanted=$room/wanted; "$model" <"$name" >"$wanted"; fi
     play <"$name" >"$room/got"
-    same "$name" $? "$room/got" "${name%.kit}.play"
+    same "$name" $? "$room/got" "$wanted"
 done
+if [ $says = model_room ]; then
+    for word in 0 1 007 4096 4097 65535 65536 4294967296 18446744073709551616 18446744073709551617 "$(printf '9%.0s' {1..4000})" \
+        '' ' ' -1 +1 1.0 '1 ' ' 1' 0x1 1e0 / : x '٣'; do
+        play "$word" <$kit >"$room/got"
+        same "argument '${word:0:30}'" $? "$room/got" <("$model" "$word" <$kit)
+    done
+    play 1 x <$kit >"$room/got"
+    same "a second argument" $? "$room/got" <("$model" 1 <$kit)
+    play x </dev/null >"$room/got"
+    same "no number, and no kit" $? "$room/got" <("$model" x </dev/null)
+    "$make" --length 65537 | play x >"$room/got"
+    same "no number, and too long a kit" $? "$room/got" <("$model" x </dev/null)
+fi
 
+# ---- input
 bytes=$(wc -c <$kit)
 for ((i = 0; i < bytes; i++)); do
     dd if=$kit bs=1 skip="$i" count=1 2>/dev/null
@@ -99,11 +119,11 @@ same "65,537 bytes and then silence" $? "$room/got" "$room/kit9"
 play <$kit >&-
 clean "standard output closed" $? && passed=$((passed + 1))
 play <"$room/large.kit" >&-
-clean "standard output closed, a large play" $? && passed=$((passed + 1))
+clean "standard output closed, a large kit" $? && passed=$((passed + 1))
 play <$kit >/dev/full
 clean "standard output full" $? && passed=$((passed + 1))
 play <"$room/large.kit" >/dev/full
-clean "standard output full, a large play" $? && passed=$((passed + 1))
+clean "standard output full, a large kit" $? && passed=$((passed + 1))
 { play <"$room/large.kit"; echo $? >"$room/status"; } | head -c 1000 >"$room/got"
 begins "a reader that goes away" "$(cat "$room/status")" "$room/got" "$large"
 { play <"$room/large.kit"; echo $? >"$room/status"; } | true
@@ -113,5 +133,5 @@ same "a slow reader" "$(cat "$room/status")" "$room/got" "$large"
 (ulimit -f 8; trap '' XFSZ; play <"$room/large.kit") >"$room/got" 2>/dev/null
 begins "a file that may not grow" $? "$room/got" "$large"
 
-echo "$passed passed, $failed failed"
+echo "$says: $passed passed, $failed failed"
 [ "$failed" = 0 ]

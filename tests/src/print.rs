@@ -34,6 +34,19 @@ pub fn kitroom(bytes: &[u8], n: Option<usize>) -> String {
     }
 }
 
+/// What kitroom says of an argument that is not decimal digits.
+pub const NO_NUMBER: &str = "the argument is not a number of events\n";
+
+/// What kitroom prints, given this argument or none.
+pub fn kitroom_asked(bytes: &[u8], word: Option<&str>) -> String {
+    match word {
+        None => kitroom(bytes, None),
+        Some(word) if word.is_empty() || !word.bytes().all(|b| b.is_ascii_digit()) => NO_NUMBER.to_string(),
+        // more digits than a number has room for: past the end of any kit
+        Some(word) => kitroom(bytes, Some(word.parse().unwrap_or(usize::MAX))),
+    }
+}
+
 /// The printed play of any bytes, however many.
 pub fn play_text(bytes: &[u8]) -> String {
     match read(bytes) {

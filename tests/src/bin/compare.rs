@@ -229,10 +229,10 @@ mod library {
         same("the library's reader, too short", short, read_kit(bytes, length - 1)?)
     }
 
-    /// Demand 3 on the library's printed rooms: at every moment of a short kit, at some of a long one.
+    /// Demand 3 on the library's printed rooms: at every moment of a kit of up to 199 events, at 100 and more of a longer one.
     fn agreement(bytes: &[u8], kit: &Kit) -> Result<(), String> {
         let mut agreement = Agreement::new(kit.table.len());
-        let step = kit.events.len() / 50 + 1;
+        let step = kit.events.len() / 200 + 1;
         let mut out = vec![0; 1 << 17];
         for n in (0..=kit.events.len()).step_by(step) {
             let count = plain_room_text(bytes, n, &mut out);

@@ -2,8 +2,9 @@
 use std::io::{Read, Result, Write};
 
 fn main() -> Result<()> {
-    let n = std::env::args().nth(1).map(|n| n.parse().expect("the number of an event"));
+    let word = std::env::args_os().nth(1);
+    let word = word.as_ref().map(|word| word.to_string_lossy());
     let mut bytes = Vec::new();
     std::io::stdin().take(65537).read_to_end(&mut bytes)?;
-    std::io::stdout().write_all(model::print::kitroom(&bytes, n).as_bytes())
+    std::io::stdout().write_all(model::print::kitroom_asked(&bytes, word.as_deref()).as_bytes())
 }
