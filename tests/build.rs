@@ -1,4 +1,4 @@
-//! With the feature `library`: links the archive that `KIT_LIBRARY` names (a path `.../libNAME.a`).
+//! With the feature `library`: links the archives that `KIT_LIBRARY` names (paths `.../libNAME.a`).
 use std::env::{var, var_os};
 use std::path::PathBuf;
 
@@ -7,10 +7,11 @@ fn main() {
     if var_os("CARGO_FEATURE_LIBRARY").is_none() {
         return;
     }
-    let path = PathBuf::from(var("KIT_LIBRARY").expect("KIT_LIBRARY: the path of the archive"));
-    let path = path.canonicalize().expect("KIT_LIBRARY: an archive that is there");
-    let name = path.file_stem().and_then(|n| n.to_str()).and_then(|n| n.strip_prefix("lib")).expect("KIT_LIBRARY: .../libNAME.a");
-    println!("cargo:rerun-if-changed={}", path.display());
-    println!("cargo:rustc-link-search=native={}", path.parent().expect("a folder").display());
-    println!("cargo:rustc-link-lib=static={name}");
+    for word in var("KIT_LIBRARY").expect("KIT_LIBRARY: the paths of the archives").split_whitespace() {
+        let path = PathBuf::from(word).canonicalize().expect("KIT_LIBRARY: archives that are there");
+        let name = path.file_stem().and_then(|n| n.to_str()).and_then(|n| n.strip_prefix("lib")).expect("KIT_LIBRARY: .../libNAME.a");
+        println!("cargo:rerun-if-changed={}", path.display());
+        println!("cargo:rustc-link-search=native={}", path.parent().expect("a folder").display());
+        println!("cargo:rustc-link-lib=static={name}");
+    }
 }

@@ -1,9 +1,18 @@
 #!/usr/bin/env bash
-# native_library.sh NAME: the proved library NAME as an archive that this machine's Rust can link; prints its path. Run in the repository.
+# native_library.sh NAME..: each proved library as an archive that this machine's Rust can link; prints their paths. Run in the repository.
 # On x86-64 it is what `rt staticlib` writes. `rt` compiles for x86-64 alone; elsewhere the LLVM module that it hands to its compiler is
 # compiled once more for this machine, from the same proved code, to compare and to measure here.
 set -eu
-name=${1:?native_library.sh NAME}
+name=${1:?native_library.sh NAME..}
+if [ $# -gt 1 ]; then
+    paths=
+    for each in "$@"; do
+        path=$(bash "$0" "$each")
+        paths="$paths $path"
+    done
+    echo "${paths# }"
+    exit
+fi
 root=$(pwd -P)
 while [ ! -f "$root/crates.txt" ]; do
     [ "$root" != / ] || { echo "no crates.txt here or above" >&2; exit 2; }

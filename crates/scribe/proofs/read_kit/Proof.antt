@@ -1,9 +1,9 @@
 -- `read_kit`: a kit has so few numbers that their count goes beside the kit number. Assumes nothing.
 use borrow.Author.Needs.{needs}
 use native.Mathlib.Omega.{arith}
-use Rattle.face.specs.Lengths.{read-few}
-use Rattle.face.proofs.read_kit.Statement.{statement}
-use Rattle.face.proofs.read_kit.Tie as tie
+use Rattle.scribe.specs.Lengths.{read-few}
+use Rattle.scribe.proofs.read_kit.Statement.{statement}
+use Rattle.scribe.proofs.read_kit.Tie as tie
 
 pub read-kit-spec : {M : Type 1} → statement M
 read-kit-spec =

@@ -1,8 +1,8 @@
 -- `write_kit`: a kit has so few bytes that their count goes beside the kit number. Assumes nothing.
 use borrow.Author.Needs.{needs}
-use Rattle.face.specs.Lengths.{write-few}
-use Rattle.face.proofs.write_kit.Statement.{statement}
-use Rattle.face.proofs.write_kit.Tie as tie
+use Rattle.scribe.specs.Lengths.{write-few}
+use Rattle.scribe.proofs.write_kit.Statement.{statement}
+use Rattle.scribe.proofs.write_kit.Tie as tie
 
 pub write-kit-spec : {M : Type 1} → statement M
 write-kit-spec =
