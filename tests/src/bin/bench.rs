@@ -129,7 +129,15 @@ fn kits() -> Vec<(&'static str, Kit)> {
         ("submissions", Kit { events: submissions, ..frame(3) }),
         ("largest", Kit { events: same(TICKS, Action::File { j: 64, k: 64, list: vec![u32::MAX; 64] }), ..frame(3) }),
         ("hands", hands()),
+        ("64 KB", full()),
     ]
+}
+
+/// As many numbers as 65,536 bytes can hold: all of one byte, but for the event count.
+fn full() -> Kit {
+    let event = |requests: usize| Event { gap: 0, action: Action::File { j: 0, k: 0, list: vec![1; requests] } };
+    let events = (0..EVENTS as usize).map(|i| event(if i < 12 { 10 } else { 11 })).collect();
+    Kit { f: 3, leader: 0, patience: 100, table: vec![1, 1, 1, 1, 0, 0, 0], events }
 }
 
 /// The dearest event again and again: a history of 64 requests that is wrong at its very end.
