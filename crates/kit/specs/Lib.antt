@@ -5,3 +5,4 @@ pub mod SpellingLaws
 pub mod Cursor
 pub mod WriterLaws
 pub mod Theorems
+pub mod OneResult
