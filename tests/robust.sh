@@ -133,5 +133,5 @@ same "a slow reader" "$(cat "$room/status")" "$room/got" "$large"
 (ulimit -f 8; trap '' XFSZ; play <"$room/large.kit") >"$room/got" 2>/dev/null
 begins "a file that may not grow" $? "$room/got" "$large"
 
-echo "$says: $passed passed, $failed failed"
+echo "$(basename "${command[-1]}"): $passed passed, $failed failed"
 [ "$failed" = 0 ]
