@@ -32,7 +32,6 @@ use Rattle.grammar.specs.declared.Phase.the-variants as Phase
 use Rattle.grammar.specs.declared.Said.{Said}
 use Rattle.grammar.specs.declared.Said.the-variants as Said
 use Rattle.grammar.specs.declared.Judge.{Judge}
-use Rattle.grammar.specs.declared.Step.{Step}
 
 -- ---- the judge, fed a list
 

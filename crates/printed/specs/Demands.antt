@@ -5,11 +5,9 @@ use mathlib.Core.Logic.{_⊎_, inl, inr}
 use mathlib.Core.Option.{some}
 use mathlib.Core.List.{List}
 use Prim.Native.Nat.{ℕ, suc, _≤_, _<_}
-use native.Mathlib.Omega.{arith}
 use lib.ListN.{length}
-use lib.Dec.{eqb}
 use borrow.Author.Tests.{ne-eqb}
-use Rattle.terms.specs.Lists.{pick, nth, within}
+use Rattle.terms.specs.Lists.{nth, within}
 use Rattle.terms.specs.ListLaws.{nth-in}
 use Rattle.terms.specs.Kit.{Kit, Entry}
 use Rattle.terms.specs.Numbers.{answerNumber, kitNumberOf}

@@ -1,6 +1,5 @@
 -- The text that a kit's bytes print. Laws: PrintedLaws. Assumes nothing.
-use mathlib.Core.Bool.{Bool, true, false}
-use mathlib.Core.List.{List, [], _∷_}
+use mathlib.Core.List.{List}
 use Prim.Native.Nat.{ℕ}
 use lib.ListN.{length, getD, replicate}
 use lib.Dec.{ltb, eqb}
@@ -10,7 +9,6 @@ use Rattle.terms.specs.Kit.{marksFaulty}
 use Rattle.terms.specs.Numbers.{kitNumberOf}
 use Rattle.terms.specs.Tabulate.{tab}
 use Rattle.terms.specs.declared.KitAnswer.the-variants.{TooLong}
-use Rattle.ledger.specs.Ledger.{Places}
 use Rattle.replica.specs.declared.Replica.{Replica}
 use Rattle.replica.specs.Record.{freshRecord}
 use Rattle.room.specs.declared.Roles.{Roles}

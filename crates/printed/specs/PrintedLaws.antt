@@ -10,7 +10,6 @@ use Rattle.terms.specs.Tabulate.{tab-ext}
 use Rattle.rules.specs.Table.{isMarkedFaulty}
 use Rattle.rules.specs.Room.{freshRoom}
 use Rattle.rules.specs.Play.{after}
-use Rattle.replica.specs.Record.{freshRecord}
 use Rattle.replica.specs.RecordLaws.{fresh-laid}
 use Rattle.room.specs.Layout.{layRoles, layTable, layReplicas, layRoom}
 use Rattle.room.specs.Bounds.{Bounds}
@@ -20,7 +19,7 @@ use Rattle.kit.specs.declared.Settings.{Settings}
 use Rattle.kit.specs.Reader.{settingsIn}
 use Rattle.player.specs.Turn.{Left, playOn}
 use Rattle.printing.specs.PlayLines.{playLines}
-use Rattle.printing.specs.PlayText.{textAfter, playText}
+use Rattle.printing.specs.PlayText.{playText}
 use Rattle.printing.specs.PlayTextLaws.{Says, play-said}
 use Rattle.printed.specs.Printed.{freshReplicas, rolesIn, playedFrom, outcomeLines, playedText}
 

@@ -1,39 +1,29 @@
 -- Demands 1 and 2 over what is printed: of bytes that spell a kit, the first events come to what the rules say, and the text is the play that
 -- the rules say; of all others it is `kit` and the number of the first fault. Assumes nothing.
-use mathlib.Core.Path.{_≡_, refl, sym, ap, _∙_}
-use mathlib.Core.Bool.{Bool, true, false}
-use mathlib.Core.Option.{Option, none, some}
-use mathlib.Core.List.{List, []}
-use Prim.Native.Nat.{ℕ, zero, suc, _≤_, _<_, min}
+use mathlib.Core.Path.{_≡_, refl, ap}
+use mathlib.Core.List.{List}
+use Prim.Native.Nat.{ℕ, _≤_, min}
 use native.Mathlib.Omega.{arith}
-use lib.ListN.{length, replicate, length-replicate, getD}
-use lib.Dec.{eqb}
-use borrow.Author.Tests.{eq-eqb}
-use Rattle.terms.specs.Limits.{eventsMax, replicas}
-use Rattle.terms.specs.Lists.{pick, nth}
+use lib.ListN.{length, replicate, length-replicate}
+use Rattle.terms.specs.Limits.{eventsMax}
 use Rattle.terms.specs.ListLaws.{nth-in}
 use Rattle.terms.specs.Padding.{pad}
-use Rattle.terms.specs.Kit.{Kit, GoodKit}
-use Rattle.terms.specs.Numbers.{answerNumber, kitNumberOf}
-use Rattle.terms.specs.declared.Answer.{Answer}
+use Rattle.terms.specs.Kit.{Kit}
 use Rattle.rules.specs.Play.{after, step, answer}
-use Rattle.replica.specs.declared.Replica.{Replica}
-use Rattle.room.specs.declared.Roles.{Roles}
 use Rattle.room.specs.Desk.{freshDesk}
 use Rattle.room.specs.Layout.{layRoles, layTable}
 use Rattle.room.specs.Reached.{reached}
 use Rattle.kit.specs.declared.Settings.{Settings}
-use Rattle.kit.specs.Reader.{checkOf, kitOf, settingsIn}
+use Rattle.kit.specs.Reader.{settingsIn}
 use Rattle.kit.specs.Spelling.{Spells}
 use Rattle.kit.specs.Cursor.{Opened, opened, spells-accepted}
 use Rattle.judge.specs.JudgeLaws.{switch-leader-laid}
-use Rattle.player.specs.Turn.{Stage, Left, leftOf, stage, turnsFrom, playOn}
+use Rattle.player.specs.Turn.{Stage, leftOf, stage, turnsFrom, playOn}
 use Rattle.player.specs.Shows.{Shows}
 use Rattle.player.specs.Plays.{Fresh, freshParts, player-shows}
-use Rattle.printing.specs.Lines.{kitLine}
-use Rattle.printing.specs.PlayText.{numberSaid, playText}
+use Rattle.printing.specs.PlayText.{playText}
 use Rattle.printing.specs.PlayTextLaws.{Says}
-use Rattle.printed.specs.Printed.{freshReplicas, rolesIn, playedFrom, playedText, printedText}
+use Rattle.printed.specs.Printed.{freshReplicas, rolesIn, playedFrom, printedText}
 use Rattle.printed.specs.PrintedLaws.{fresh-replicas-laid, PlaysAs, played-said}
 
 module _ (bytes : List ℕ) (kit : Kit) (spells : Spells bytes kit) where

@@ -1,14 +1,14 @@
 -- Laws of Asked: a word from one of its bytes on, and numbers that are cut off at a bound. Assumes nothing.
-use mathlib.Core.Path.{_≡_, refl, sym, ap, _∙_}
-use mathlib.Core.Bool.{Bool, true, false, _&&_}
+use mathlib.Core.Path.{_≡_, sym, ap, _∙_}
+use mathlib.Core.Bool.{true, _&&_}
 use mathlib.Core.List.{List, [], _∷_}
-use Prim.Native.Nat.{ℕ, _+_, _-_, _*_, _≤_, _<_, min}
+use Prim.Native.Nat.{ℕ, _+_, _-_, _≤_, _<_, min}
 use native.Mathlib.Numerals.{add-one}
 use native.Mathlib.Omega.{arith}
 use lib.ListN.{length, getD, drop, drop-of-length-le}
 use lib.Seq.{drop-cons}
 use Rattle.terms.specs.Lists.{allOf}
-use Rattle.room_text.specs.Asked.{isDigit, isNumber, withDigit, withDigits, numberAsked, askedMax}
+use Rattle.room_text.specs.Asked.{isDigit, withDigit, withDigits, askedMax}
 
 pub digits-from : (word : List ℕ) (i : ℕ) → i < length word → allOf (drop i word) isDigit ≡ (isDigit (getD word i 0) && allOf (drop (i + 1) word) isDigit)
 digits-from word i h = rw (drop-cons word i 0 h, add-one i)

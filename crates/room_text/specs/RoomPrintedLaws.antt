@@ -3,7 +3,7 @@
 use mathlib.Core.Path.{_≡_}
 use mathlib.Core.List.{List}
 use Prim.Native.Nat.{ℕ, _≤_}
-use lib.ListN.{length, replicate}
+use lib.ListN.{replicate}
 use Rattle.terms.specs.Kit.{Kit}
 use Rattle.rules.specs.Play.{after}
 use Rattle.replica.specs.declared.Replica.{Replica}

@@ -1,13 +1,13 @@
 -- Demand 2 over the printed room: of bytes that spell a kit, and n at most its events, the text is the room that the rules have after n
 -- events; past the last event it says how many there are; of all other bytes it is `kit` and the number of the first fault. Assumes nothing.
-use mathlib.Core.Path.{_≡_, refl, sym, ap, _∙_}
-use mathlib.Core.Bool.{Bool, true, false}
+use mathlib.Core.Path.{_≡_, refl, ap, _∙_}
+use mathlib.Core.Bool.{false}
 use mathlib.Core.List.{List}
 use Prim.Native.Nat.{ℕ, _≤_, _<_, min}
 use native.Mathlib.Omega.{arith}
 use lib.ListN.{length}
 use lib.Dec.{eqb, ltb}
-use borrow.Author.Tests.{eq-eqb, ne-eqb, eqb-true, lt-ltb, le-ltb, ltb-true, ltb-false}
+use borrow.Author.Tests.{ne-eqb, eqb-true, lt-ltb, le-ltb, ltb-true, ltb-false}
 use Rattle.terms.specs.Limits.{bytesMax}
 use Rattle.terms.specs.ListLaws.{split}
 use Rattle.terms.specs.Kit.{Kit}
@@ -22,8 +22,8 @@ use Rattle.kit.specs.Cursor.{opened, accepted-spells, spells-accepted}
 use Rattle.printing.specs.Lines.{kitLine}
 use Rattle.printed.specs.Theorem.{plays-first}
 use Rattle.room_lines.specs.RoomText.{roomText}
-use Rattle.room_text.specs.Asked.{isNumber, numberAsked, askedMax}
-use Rattle.room_text.specs.RoomPrinted.{pastText, roomAfter, momentText, printedRoom, inputRoom, askedRoom, programRoom, noNumberText}
+use Rattle.room_text.specs.Asked.{askedMax}
+use Rattle.room_text.specs.RoomPrinted.{pastText, momentText, printedRoom, inputRoom, programRoom}
 use Rattle.room_text.specs.RoomPrintedLaws.{room-after-said}
 
 module _ (bytes : List ℕ) (kit : Kit) (spells : Spells bytes kit) where

@@ -1,15 +1,14 @@
 -- How many numbers and bytes a kit has at the most: a count of them goes into a number of 64 bits beside the kit number. Assumes nothing.
-use mathlib.Core.Path.{_≡_, refl, sym, ap, _∙_}
-use mathlib.Core.Bool.{true}
-use mathlib.Core.List.{List, [], _∷_, _++_}
-use Prim.Native.Nat.{ℕ, zero, suc, _+_, _*_, _≤_, _<_, _^_}
+use mathlib.Core.Path.{_≡_, refl}
+use mathlib.Core.List.{List, [], _∷_}
+use Prim.Native.Nat.{ℕ, suc, _*_, _≤_, _<_, _^_}
 use native.Mathlib.Omega.{arith}
 use lib.ListN.{length, length-append}
 use lib.Dec.{leb}
 use Rattle.terms.specs.ListLaws.{split}
 use Rattle.terms.specs.Limits.{replicas}
-use Rattle.terms.specs.Kit.{Kit, Entry, GoodEntry, GoodEntries, GoodEvent, GoodKit, eventNumbers, entryNumbers, entriesNumbers, kitNumbers}
-use Rattle.terms.specs.Numbers.{contentNumbers, kitNumberOf}
+use Rattle.terms.specs.Kit.{Kit, Entry, GoodEntries, GoodEvent, GoodKit, eventNumbers, entryNumbers, entriesNumbers, kitNumbers}
+use Rattle.terms.specs.Numbers.{contentNumbers}
 use Rattle.terms.specs.declared.Content.{Content}
 use Rattle.terms.specs.declared.Content.the-variants.{Prepare, Commit, Update, History, Switch}
 use Rattle.terms.specs.declared.Event.{Event}
@@ -20,7 +19,6 @@ use Rattle.number.specs.Number.{Bytes, spelling}
 use Rattle.number.specs.NumberLaws.{spelling-length}
 use Rattle.grammar.specs.Parser.{kitAnswer}
 use Rattle.grammar.specs.ParserLaws.{answer-accepted, accepted-good, accepted-numbers}
-use Rattle.kit.specs.declared.writer.Outcome.{Outcome}
 use Rattle.kit.specs.Spelling.{spellings}
 use Rattle.kit.specs.Reader.{numbersIn, checkOf}
 use Rattle.kit.specs.Writer.{isAccepted, outcomeOf, writeOf, readOf}

@@ -3,7 +3,6 @@ use borrow.Author.Needs.{needs}
 use borrow.Author.Tests.{not-true, not-false}
 use mathlib.Core.Path.{_≡_, refl, sym, _∙_}
 use Prim.Native.Nat.{_-_}
-use native.Mathlib.Omega.{arith}
 use lib.ListN.{length, drop}
 use Rattle.terms.specs.Lists.{allOf}
 use Rattle.room_text.specs.Asked.{isDigit, isNumber}
