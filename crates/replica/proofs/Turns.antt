@@ -1,44 +1,49 @@
--- The invariants of the three loops, each by what is still to come, and one turn of each. Assumes nothing.
+-- The invariants of the three loops, and one turn of each. Assumes nothing.
 use mathlib.Core.Path.{_≡_, refl, sym, ap, _∙_}
 use mathlib.Core.Bool.{Bool, true, false}
 use mathlib.Core.Logic.{_≢_}
 use mathlib.Core.List.{List, [], _∷_}
-use Prim.Native.Nat.{ℕ, zero, suc, _+_, _≤_, _<_, min}
+use Prim.Native.Nat.{ℕ, zero, suc, _+_, _-_, _≤_, _<_, min}
 use native.Mathlib.Omega.{arith}
 use native.Mathlib.Numerals.{add-one}
 use lib.ListN.{length, take, drop, getD, length-take, drop-of-length-le}
 use lib.Seq.{drop-cons, getD-take}
-use borrow.Author.Tests.{eq-eqb, ne-eqb}
+use borrow.Author.Tests.{ne-eqb}
 use Rattle.terms.specs.Lists.{pick, holds, leastOver, countBelow}
-use Rattle.terms.specs.ListLaws.{split}
+use Rattle.terms.specs.ListLaws.{split, holds-at, nth-getD}
 use Rattle.terms.specs.Kit.{marksActive}
 use Rattle.rules.specs.Table.{activesFrom}
 
--- ---- whether the first n of a list hold a request: what is from place i on decides
+-- ---- whether the first n of a list hold a request: from place i on, the newer ones, they do not
 
 pub record Searching (list : List ℕ) (n request i : ℕ) : Type 0 where
-  pub rest : holds request (take n list) ≡ holds request (drop i (take n list))
+  pub within : i ≤ min n (length list)
+  pub not-newer : holds request (drop i (take n list)) ≡ false
+
+pub behind-newest : {list : List ℕ} {n request i : ℕ} → i ≡ min n (length list) → Searching list n request i
+behind-newest {list} {n} {request} {i} e =
+    let end : length (take n list) ≤ i = omega (arith, e, length-take n list) in
+    record { within = omega (arith, e); not-newer = rw (drop-of-length-le (take n list) end) }
 
 module _ {list : List ℕ} {n request i : ℕ} (s : Searching list n request i) where
-  none-left : length (take n list) ≤ i → false ≡ holds request (take n list)
-  none-left h = rw (s .rest, drop-of-length-le (take n list) h)
+  below-end : 0 < i → i - 1 < length (take n list)
+  below-end h = omega (arith, s .within, length-take n list)
 
-  pub past-end : length list ≤ i → false ≡ holds request (take n list)
-  past-end h = none-left (omega (arith, length-take n list))
+  looked-at : 0 < i → getD (take n list) (i - 1) 0 ≡ getD list (i - 1) 0
+  looked-at h = getD-take n list (i - 1) 0 (omega (arith, s .within))
 
-  pub past-count : n ≤ i → false ≡ holds request (take n list)
-  past-count h = none-left (omega (arith, length-take n list))
+  pub found : 0 < i → getD list (i - 1) 0 ≡ request → true ≡ holds request (take n list)
+  found h e = sym (holds-at (take n list) (i - 1) request (nth-getD (take n list) (i - 1) 0 (below-end h) ∙ rw (looked-at h, e)))
 
-  looks-at : i < n → i < length list → drop i (take n list) ≡ getD list i 0 ∷ drop (i + 1) (take n list)
-  looks-at below within =
-      let long : i < length (take n list) = omega (arith, length-take n list) in
-      rw (drop-cons (take n list) i 0 long, getD-take n list i 0 below, add-one i)
+  pub not-here : 0 < i → (getD list (i - 1) 0 ≢ request) → Searching list n request (i - 1)
+  not-here h ne =
+      let back : suc (i - 1) ≡ i = omega arith in
+      let newer : holds request (drop (suc (i - 1)) (take n list)) ≡ false = ap (λ (k : ℕ). holds request (drop k (take n list))) back ∙ s .not-newer in
+      let other = ne-eqb request (getD list (i - 1) 0) (λ e. ne (sym e)) in
+      record { within = omega (arith, s .within); not-newer = rw (drop-cons (take n list) (i - 1) 0 (below-end h), looked-at h, other) newer }
 
-  pub found : i < n → i < length list → getD list i 0 ≡ request → true ≡ holds request (take n list)
-  found below within e = rw (s .rest, looks-at below within, eq-eqb request (getD list i 0) (sym e))
-
-  pub not-here : i < n → i < length list → (getD list i 0 ≢ request) → Searching list n request (i + 1)
-  not-here below within ne = record { rest = s .rest ∙ rw (looks-at below within, ne-eqb request (getD list i 0) (λ e. ne (sym e))) }
+  pub none-left : i ≤ 0 → false ≡ holds request (take n list)
+  none-left h = let none : i ≡ 0 = omega arith in sym (rw none at (s .not-newer))
 
 -- ---- how many of seven pass a test
 

@@ -198,20 +198,20 @@ pub fn is_active_at(table: &[u32; 7], x: usize) -> bool
     is_active(entries[x])
 }
 
-// Whether the first n of a list hold a request; the oldest is looked at first.
+// Whether the first n of a list hold a request. The newest is looked at first: a repeated request is nearly always a client's second try.
 pub fn holds(list: &[u32; 64], n: usize, request: u32) -> bool
     ensures { λ r. ⌜ r ≡ holds request (take n (now (list .entry))) ⌝ }
 {
     let all: &[u32] = list;
-    let mut i: usize = 0;
-    while i < n {
-        if all.len() <= i {
-            return false;
-        }
+    let mut i = all.len();
+    if n < i {
+        i = n;
+    }
+    while 0 < i {
+        i = i - 1;
         if all[i] == request {
             return true;
         }
-        i = i + 1;
     }
     false
 }

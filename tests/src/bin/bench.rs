@@ -7,7 +7,7 @@
 
 use model::generator::protocol;
 use model::kit::{self, Action, Content, Event, Kit, EVENTS, TICKS};
-use model::play::Room;
+use model::play::{Room, SUBMISSIONS};
 use model::random::Random;
 use model::{print, tuned};
 use std::hint::black_box;
@@ -117,7 +117,10 @@ fn kits() -> Vec<(&'static str, Kit)> {
     let all = EVENTS as usize;
     let frame = |f: usize| Kit { events: Vec::new(), ..protocol::large(&mut Random::new(f as u64), f) };
     let same = |gap: u32, action: Action| vec![Event { gap, action }; all];
-    let submissions = (1..=EVENTS).map(|r| Event { gap: 1, action: Action::Submit(r) }).collect();
+    let submit = |request: u32| Event { gap: 1, action: Action::Submit(request) };
+    let submissions = (1..=EVENTS).map(submit).collect();
+    // each request of as many as can be submitted, and then again and again until the next one comes
+    let tries = (0..EVENTS).map(|i| submit(1 + i * SUBMISSIONS as u32 / EVENTS)).collect();
     let mut late = protocol::large(&mut Random::new(3), 3);
     late.patience = 10_000;
     vec![
@@ -127,6 +130,7 @@ fn kits() -> Vec<(&'static str, Kit)> {
         ("f3-late", late),
         ("idle", Kit { events: same(0, Action::Idle), ..frame(3) }),
         ("submissions", Kit { events: submissions, ..frame(3) }),
+        ("second tries", Kit { events: tries, ..frame(3) }),
         ("largest", Kit { events: same(TICKS, Action::File { j: 64, k: 64, list: vec![u32::MAX; 64] }), ..frame(3) }),
         ("hands", hands()),
         ("64 KB", full()),
