@@ -81,6 +81,7 @@ pub const CASES: &[&str] = &[
     "23 seven filed",
     "24 faulty",
     "24 running",
+    "24 running, though late",
     "24 holding",
     "24 closed",
     "taken: submit, PREPARE",
@@ -107,7 +108,8 @@ pub const CASES: &[&str] = &[
     "taken: hand of a filed history",
     "taken: hand, j below k",
     "taken: hand, with a tail",
-    "taken: PANIC",
+    "taken: PANIC, nobody late",
+    "taken: PANIC, after the late tick",
     "taken: idle",
     "taken: build, k above j",
     "taken: build, with a tail",
@@ -123,6 +125,12 @@ pub const CASES: &[&str] = &[
     "late: all correct have closed",
     "late: at a refused event",
     "late: not the first submission",
+    "late: a submission is prepared after it",
+    "late: ag or up is taken after it",
+    "late: answered after all",
+    "late: a PANIC reaches all in the end",
+    "late: a PANIC reaches some and never others",
+    "late: no PANIC reaches anybody",
     "clock past 32 bits",
     "a counter with 96",
     "64 submissions",
@@ -171,6 +179,7 @@ pub fn refused(room: &Room, action: &Action, answer: u32) -> &'static str {
 fn no_building(room: &Room) -> &'static str {
     match room.replicas[room.switch_leader()].condition {
         Condition::Faulty => "24 faulty",
+        Condition::Running if room.late.is_some() => "24 running, though late",
         Condition::Running => "24 running",
         Condition::Halted => "24 holding",
         Condition::Closed => "24 closed",
@@ -285,8 +294,9 @@ fn not_valid_at(room: &Room, history: &History, i: usize) -> Option<&'static str
 
 /// What is known of the room before an event, for the cases of a taken one and of lateness.
 pub struct Before {
-    late: Option<u64>,
-    running: bool,
+    pub late: Option<u64>,
+    /// Who runs.
+    pub running: Vec<usize>,
     closed: bool,
     up_issued: usize,
     settled: usize,
@@ -304,7 +314,7 @@ impl Before {
         };
         Before {
             late: room.late,
-            running: correct().any(|p| p.condition == Condition::Running),
+            running: (0..room.replicas.len()).filter(|&x| room.replicas[x].condition == Condition::Running).collect(),
             closed: correct().all(|p| p.condition == Condition::Closed),
             up_issued: room.counters[to][UP].len(),
             settled: room.settled(to).len(),
@@ -317,12 +327,18 @@ impl Before {
 /// The cases of an event that was taken.
 pub fn taken(room: &Room, before: &Before, action: &Action, meet: &mut impl FnMut(&'static str)) {
     match action {
-        Action::Submit(_) => meet(match room.replicas[room.kit.leader].condition {
-            Condition::Running => "taken: submit, PREPARE",
-            Condition::Faulty => "taken: submit, leader faulty",
-            Condition::Halted => "taken: submit, leader halted",
-            Condition::Closed => "taken: submit, leader closed",
-        }),
+        Action::Submit(_) => {
+            let leader = room.replicas[room.kit.leader].condition;
+            meet(match leader {
+                Condition::Running => "taken: submit, PREPARE",
+                Condition::Faulty => "taken: submit, leader faulty",
+                Condition::Halted => "taken: submit, leader halted",
+                Condition::Closed => "taken: submit, leader closed",
+            });
+            if leader == Condition::Running && room.late.is_some() {
+                meet("late: a submission is prepared after it");
+            }
+        }
         Action::Issue { name, content, .. } => {
             let usual = match content {
                 Content::Prepare(_) | Content::Commit(..) => *name == AG,
@@ -334,7 +350,9 @@ pub fn taken(room: &Room, before: &Before, action: &Action, meet: &mut impl FnMu
         }
         Action::Deliver { sender, name, value, to } => delivered(room, before, (*sender, *name, *value, *to), meet),
         Action::Hand { to, .. } => handed(room, room.replicas[*to].held.expect("handed"), meet),
-        Action::Panic(_) => meet("taken: PANIC"),
+        Action::Panic(_) => {
+            meet(if room.late.is_some() { "taken: PANIC, after the late tick" } else { "taken: PANIC, nobody late" });
+        }
         Action::Idle => meet("taken: idle"),
         Action::Build => built(room.histories.last().expect("built"), meet),
         Action::File { list, .. } => meet(if list.is_empty() { "taken: file, empty" } else { "taken: file" }),
@@ -408,6 +426,9 @@ fn delivered(
     if room.counters[to][UP].len() > before.up_issued {
         meet("taken: settles");
     }
+    if name != SW && room.late.is_some() {
+        meet("late: ag or up is taken after it");
+    }
 }
 
 /// The cases of the clock, and of the room's limits, after an event.
@@ -416,9 +437,6 @@ pub fn clock(room: &Room, before: &Before, answer: u32, meet: &mut impl FnMut(&'
     match (before.late, room.late) {
         (None, Some(tick)) => {
             meet(if tick == room.clock { "late: at the very tick" } else { "late: noticed later" });
-            if !before.running {
-                meet("late: nobody runs");
-            }
             if before.closed {
                 meet("late: all correct have closed");
             }
@@ -465,4 +483,20 @@ pub fn limits(room: &Room, meet: &mut impl FnMut(&'static str)) {
     if correct.into_iter().any(|x| room.counters[x].iter().any(|c| c.len() > SUBMISSIONS)) {
         meet("a correct replica's 65th value");
     }
+}
+
+/// What became of a late client, at the end of a play: of its request, and of its PANIC to those who ran when it became late.
+pub fn after_the_late_tick(room: &Room, running: &[usize], meet: &mut impl FnMut(&'static str)) {
+    let Some(late) = room.late else { return };
+    let patience = u64::from(room.kit.patience);
+    if room.submitted.iter().filter(|s| s.1 + patience == late).all(|s| room.is_answered(s.0)) {
+        meet("late: answered after all");
+    }
+    let run_on = running.iter().filter(|&&x| room.replicas[x].condition == Condition::Running).count();
+    meet(match run_on {
+        _ if running.is_empty() => "late: nobody runs",
+        0 => "late: a PANIC reaches all in the end",
+        n if n == running.len() => "late: no PANIC reaches anybody",
+        _ => "late: a PANIC reaches some and never others",
+    });
 }

@@ -147,7 +147,7 @@ impl<'a> Room<'a> {
         })
     }
 
-    /// Clock first: the gap, then lateness.
+    /// Clock first: the gap, then lateness, which halts nobody.
     pub fn tick(&mut self, gap: u32) {
         self.clock += u64::from(gap);
         if self.late.is_some() {
@@ -158,11 +158,6 @@ impl<'a> Room<'a> {
             self.submitted.iter().filter(|&&(r, t)| self.clock - t >= patience && !self.is_answered(r)).map(|&(_, t)| t).min();
         if let Some(t) = overdue {
             self.late = Some(t + patience);
-            for p in &mut self.replicas {
-                if p.condition == Condition::Running {
-                    p.condition = Condition::Halted;
-                }
-            }
         }
     }
 

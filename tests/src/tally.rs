@@ -1,7 +1,7 @@
 //! How often each kit number, each answer, each condition and each case was met.
 
 use crate::agreement::Agreement;
-use crate::cases::{clock, limits, refused, taken, Before, CASES};
+use crate::cases::{after_the_late_tick, clock, limits, refused, taken, Before, CASES};
 use crate::kit::{self, Kit};
 use crate::play::{Condition, Room};
 use std::collections::BTreeMap;
@@ -40,6 +40,7 @@ impl Tally {
         let mut room = Room::new(kit);
         let mut agreement = Agreement::new(room.replicas.len());
         let mut verdict = Ok(());
+        let mut running = Vec::new();
         for (i, event) in kit.events.iter().enumerate() {
             let before = Before::new(&room, &event.action);
             let answer = room.step(event);
@@ -51,9 +52,14 @@ impl Tally {
                 _ => meet(refused(&room, &event.action, answer)),
             }
             clock(&room, &before, answer, &mut meet);
+            if before.late.is_none() {
+                running = before.running;
+            }
             verdict = verdict.and_then(|()| agreement.take_room(&room).map_err(|e| format!("after event {}: {e}", i + 1)));
         }
-        limits(&room, &mut |case| *self.cases.entry(case).or_insert(0) += 1);
+        let mut meet = |case| *self.cases.entry(case).or_insert(0) += 1;
+        limits(&room, &mut meet);
+        after_the_late_tick(&room, &running, &mut meet);
         for p in &room.replicas {
             self.conditions[p.condition as usize] += 1;
         }

@@ -311,9 +311,6 @@ impl<'a> Room<'a> {
                 self.known += 1;
             } else {
                 self.late = Some(self.ticks[self.known] + self.kit.patience);
-                for p in self.replicas.iter_mut().filter(|p| p.condition == Condition::Running) {
-                    p.condition = Condition::Halted;
-                }
             }
         }
     }

@@ -9,6 +9,9 @@ use std::path::PathBuf;
 
 const LESSONS: [&str; 5] = ["clean", "late", "switch", "faulty-leader", "faulty-switch-leader"];
 
+/// Kits that the page of `late` shows beside its own.
+const BESIDE: [&str; 2] = ["late-panic", "late-without-gaps"];
+
 fn file(name: &str, kind: &str) -> Vec<u8> {
     let path = PathBuf::from(env!("CARGO_MANIFEST_DIR")).join("../kits/lessons").join(format!("{name}.{kind}"));
     fs::read(&path).unwrap_or_else(|e| panic!("{}: {e}", path.display()))
@@ -24,7 +27,7 @@ fn kit(name: &str) -> Kit {
 
 #[test]
 fn kits_are_what_their_texts_say_and_print_what_stands_beside_them() {
-    for name in LESSONS.into_iter().chain(["late-without-gaps"]) {
+    for name in LESSONS.into_iter().chain(BESIDE) {
         assert_eq!(text_form::bytes(&text(name, "txt")).as_ref(), Ok(&file(name, "kit")), "{name}");
         assert_eq!(kitplay(&file(name, "kit")), text(name, "play"), "{name}");
     }
@@ -33,7 +36,7 @@ fn kits_are_what_their_texts_say_and_print_what_stands_beside_them() {
 #[test]
 fn pages_quote_the_plays() {
     for name in LESSONS {
-        let plays = text(name, "play") + &text("late-without-gaps", "play");
+        let plays = text(name, "play") + &BESIDE.map(|beside| text(beside, "play")).concat();
         let page = text(name, "md");
         let quoted = page.lines().filter_map(|line| line.strip_prefix("    ")).filter(|line| *line != "...");
         for line in quoted {
@@ -56,6 +59,14 @@ fn least_patience(mut kit: Kit) -> u32 {
         kit.patience += 1;
     }
     kit.patience
+}
+
+#[test]
+fn the_patience_decides_the_last_line_alone() {
+    let lines = |name: &str| text(name, "play").lines().map(String::from).collect::<Vec<_>>();
+    let (clean, late) = (lines("clean"), lines("late"));
+    assert_eq!(clean[..clean.len() - 1], late[..late.len() - 1]);
+    assert_eq!((clean.last().unwrap().as_str(), late.last().unwrap().as_str()), ("late none", "late 10"));
 }
 
 #[test]

@@ -55,8 +55,9 @@ fn gaps_of_the_paper() {
     let line = |gap: u32| play_of(&kit(THREE, &third(gap))).lines().nth(2).unwrap().to_string();
     // P7
     assert_eq!(line(6), "3 9 0");
-    // P8
-    assert_eq!(line(7), "3 10 17");
+    assert_eq!(after(THREE, &third(6), |room| room.late), None);
+    // P8, as request L3 has it
+    assert_eq!(line(7), "3 10 0");
     assert_eq!(after(THREE, &third(7), |room| room.late), Some(10));
     // P9
     assert_eq!(answers(THREE, "0 1 7 / 3 3 0 0 1 1 / 0 3 0 0 1 1"), [0, 0, 19]);
@@ -109,9 +110,6 @@ fn the_gap_of_a_refused_event_counts() {
 
 #[test]
 fn lateness_comes_before_the_event_and_at_the_very_tick() {
-    // a PREPARE at tick 10 finds its receiver halted, at tick 9 not
-    assert_eq!(answers(THREE, "0 1 7 / 10 3 0 0 1 1"), [0, 17]);
-    assert_eq!(answers(THREE, "0 1 7 / 9 3 0 0 1 1"), [0, 0]);
     // the COMMIT that answers comes in the event before tick 10; in the event at tick 10 it is too late
     assert_eq!(after(THREE, "0 1 7 / 0 3 0 0 1 1 / 9 3 1 0 1 0 / 1 6", |room| room.late), None);
     assert_eq!(after(THREE, "0 1 7 / 0 3 0 0 1 1 / 10 3 1 0 1 0", |room| room.late), Some(10));
@@ -154,17 +152,18 @@ fn the_writer() {
 }
 
 #[test]
-fn a_refused_event_changes_only_clock_and_lateness() {
+fn a_refused_event_changes_only_clock_and_late_tick() {
     for seed in 0..200 {
         let kit = model::generator::protocol::kit(&mut model::random::Random::new(seed));
         let mut room = Room::new(&kit);
         for event in &kit.events {
+            let before = room.clone();
             let mut ticked = room.clone();
             ticked.tick(event.gap);
             if room.step(event) != 0 {
-                assert_eq!((room.clock, room.late), (ticked.clock, ticked.late));
-                assert_eq!((&room.submitted, &room.histories, room.filed), (&ticked.submitted, &ticked.histories, ticked.filed));
-                assert_eq!((&room.counters, &room.replicas), (&ticked.counters, &ticked.replicas));
+                assert_eq!((room.clock, room.late), (before.clock + u64::from(event.gap), ticked.late));
+                assert_eq!((&room.submitted, &room.histories, room.filed), (&before.submitted, &before.histories, before.filed));
+                assert_eq!((&room.counters, &room.replicas), (&before.counters, &before.replicas));
             }
         }
     }

@@ -2,9 +2,11 @@
 
 mod common;
 use common::{after, answers, last, number, FIVE, THREE};
-use model::kit::{of_numbers, Content};
-use model::play::Condition;
+use model::generator::protocol;
+use model::kit::{of_numbers, Action, Content, Kit, TICKS};
+use model::play::{Condition, Room};
 use model::print::kitplay;
+use model::random::Random;
 
 /// f = 1 with the leader, the switch leader or the passive replica faulty.
 const LEADER: &str = "f 1\nleader 0\npatience 10\nreplicas 3 1 0\n";
@@ -150,7 +152,7 @@ fn r13_r14_lateness_once() {
     assert_eq!(late("3 1 7 / 10 6"), Some(13));
     assert_eq!(late("3 1 7 / 1 1 5 / 50 6"), Some(13));
     assert_eq!(late("3 1 7 / 50 6 / 0 1 5 / 50 6"), Some(13));
-    // a refused event notices it, and nobody need be left to halt
+    // a refused event notices it, and nobody need be running
     assert_eq!(late("3 1 7 / 50 1 7"), Some(13));
     assert_eq!(late("3 1 7 / 0 5 0 / 0 5 1 / 0 5 2 / 50 6"), Some(13));
     assert_eq!(late("3 1 7 / 0 5 0 / 0 5 1 / 0 5 2 / 9 6"), None);
@@ -180,9 +182,48 @@ fn r15_answered_is_about_what_was_issued() {
     });
 }
 
+/// Request L3: lateness halts nobody.
 #[test]
-fn r16_passive_ones_halt_too_and_the_clock_is_long() {
-    after(THREE, "0 1 7 / 10 6", |room| assert!(room.replicas.iter().all(|p| p.condition == Condition::Halted)));
+fn l3_a_panic_has_to_travel() {
+    let conditions = |events: &str| after(THREE, events, |room| room.replicas.iter().map(|p| p.condition).collect::<Vec<_>>());
+    assert_eq!(conditions("0 1 7 / 10 6"), [Condition::Running; 3]);
+    // a running leader prepares what is submitted after the late tick, and it is settled and answered
+    let later = "0 1 7 / 10 1 5 / 0 3 0 0 1 1 / 0 3 0 0 2 1 / 0 3 1 0 1 0 / 0 3 1 0 2 0";
+    assert_eq!(answers(THREE, later), [0; 6]);
+    after(THREE, later, |room| {
+        assert_eq!((room.late, room.settled(0)), (Some(10), [7, 5].as_slice()));
+        assert!(room.is_answered(7) && room.is_answered(5));
+    });
+    // a running switch leader cannot build until its PANIC comes, and a running replica is handed nothing
+    assert_eq!(answers(THREE, "0 1 7 / 10 7 / 0 5 1 / 0 7 / 0 4 1 1 2 / 0 5 2 / 0 4 1 1 2"), [0, 24, 0, 0, 18, 0, 0]);
+    // the PANIC reaches 1 alone
+    assert_eq!(conditions("0 1 7 / 10 6 / 3 5 1 / 9 6"), [Condition::Running, Condition::Halted, Condition::Running]);
+}
+
+/// Of a room all but the late tick is the same at every patience, and so is every answer; who halts has taken a PANIC.
+#[test]
+fn l3_the_patience_decides_the_late_tick_alone() {
+    for seed in 0..200 {
+        let mut random = Random::new(seed);
+        let kit = protocol::kit(&mut random);
+        let other = Kit { patience: random.pick(&[1, 2, 5, 20, 100, TICKS]), ..kit.clone() };
+        let (mut room, mut beside) = (Room::new(&kit), Room::new(&other));
+        for event in &kit.events {
+            let was: Vec<_> = room.replicas.iter().map(|p| p.condition).collect();
+            let answer = room.step(event);
+            assert_eq!(answer, beside.step(event));
+            assert_eq!((room.clock, &room.submitted, &room.histories), (beside.clock, &beside.submitted, &beside.histories));
+            assert_eq!((room.filed, &room.counters, &room.replicas), (beside.filed, &beside.counters, &beside.replicas));
+            for (x, p) in room.replicas.iter().enumerate() {
+                let halts = p.condition == Condition::Halted && was[x] != Condition::Halted;
+                assert_eq!(halts, answer == 0 && event.action == Action::Panic(x));
+            }
+        }
+    }
+}
+
+#[test]
+fn r16_the_clock_is_long() {
     let far = format!("0 6 / {} 0 1 7 / 268435455 6", "268435455 6 / ".repeat(20));
     after(THREE, &far, |room| {
         assert_eq!(room.clock, 21 * 268435455);

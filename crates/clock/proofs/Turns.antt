@@ -1,12 +1,12 @@
--- The invariants of the four loops, each by what is still to come, and one turn of each. Assumes nothing.
+-- The invariants of the three loops, each by what is still to come, and one turn of each. Assumes nothing.
 use mathlib.Core.Path.{_≡_, sym, _∙_}
 use mathlib.Core.Bool.{Bool, true, false, _||_}
-use mathlib.Core.List.{List, _++_, map, append-nil}
+use mathlib.Core.List.{List}
 use Prim.Native.Nat.{ℕ, zero, suc, _+_, _-_, _≤_, _<_}
 use native.Mathlib.Omega.{arith}
 use native.Mathlib.Numerals.{add-one}
-use lib.ListN.{length, take, drop, set, getD, length-set, drop-of-length-le}
-use lib.Seq.{drop-cons, take-suc-set, drop-set-lt, append-snoc, take-all}
+use lib.ListN.{length, drop, getD, drop-of-length-le}
+use lib.Seq.{drop-cons}
 use Rattle.terms.specs.Lists.{allOf, anyBelow}
 use Rattle.terms.specs.Kit.{marksActive}
 use Rattle.rules.specs.Table.{activesFrom}
@@ -76,26 +76,3 @@ module _ {t : ℕ → Bool} {first n i : ℕ} (s : Searching t first n i) where
 
   pub all-passed : n ≤ i → i ≡ firstFrom t first (n - first)
   all-passed h = let e : n - i ≡ 0 = omega arith in sym (s .rest ∙ rw e)
-
--- ---- every element of an array: those before x are changed, those from x on are still to be
-
-pub record Changing {A : Type 0} (f : A → A) (l₀ l : List A) (x : ℕ) : Type 0 where
-  pub long : length l ≡ length l₀
-  pub rest : take x l ++ map f (drop x l) ≡ map f l₀
-
-module _ {A : Type 0} {f : A → A} {l₀ l : List A} {x : ℕ} (s : Changing f l₀ l x) where
-  pub next-changed : (d : A) → x < length l₀ → Changing f l₀ (set l x (f (getD l x d))) (x + 1)
-  next-changed d h =
-      let a = f (getD l x d) in
-      let below : x < length l = rw (s .long) h in
-      record {
-        long = length-set l x a ∙ s .long;
-        rest =
-            rw (add-one x, take-suc-set l x a below, drop-set-lt (suc x) l x a (omega arith), append-snoc (take x l) a (map f (drop (suc x) l)))
-            (rw (drop-cons l x d below) at (s .rest));
-      }
-
-  pub all-changed : length l₀ ≤ x → l ≡ map f l₀
-  all-changed h =
-      let past : length l ≤ x = rw (s .long) h in
-      sym (rw (take-all x l past, drop-of-length-le l past) (append-nil l)) ∙ s .rest

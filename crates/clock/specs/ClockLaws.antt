@@ -1,25 +1,18 @@
 -- The clock of the code is the clock of the rules: on a laid-out room within bounds, with so many submissions known to be answered and a gap
 -- of a kit, it gives the rules' next room laid out, and what it then takes for known is known there. Assumes nothing.
-use mathlib.Core.Path.{_≡_, sym, ap, _∙_, fun-ext}
-use mathlib.Core.Bool.{not, _&&_}
-use mathlib.Core.List.{map}
-use Prim.Native.Nat.{ℕ, _-_, _≤_}
+use mathlib.Core.Path.{_≡_, sym}
+use Prim.Native.Nat.{ℕ, _≤_}
 use Rattle.terms.specs.Limits.{ticksMax}
 use Rattle.terms.specs.Lists.{pick, isSome}
 use Rattle.terms.specs.ListLaws.{split}
 use Rattle.terms.specs.Kit.{Kit}
-use Rattle.terms.specs.Tabulate.{tab, map-tab}
 use Rattle.terms.specs.Padding.{pad}
-use Rattle.rules.specs.Room as Rules
-use Rattle.rules.specs.Room.{Room, withClock}
-use Rattle.rules.specs.Clock.{halt, panicAll, tick}
+use Rattle.rules.specs.Room.{Room, withClock, withLate}
+use Rattle.rules.specs.Holding.{none-of}
+use Rattle.rules.specs.Clock.{tick}
 use Rattle.rules.specs.Growth.{tick-grows}
 use Rattle.rules.specs.laws.Refused.{tick-ticked}
 use Rattle.ledger.specs.LedgerLayout.{layLedger, layIssued}
-use Rattle.replica.specs.Record.{haltOn}
-use Rattle.replica.specs.RecordLayout.{layReplica}
-use Rattle.replica.specs.RecordLaws.{halt-laid}
-use Rattle.room.specs.declared.Desk.{Desk}
 use Rattle.room.specs.Layout.{layRoles, layTable, layDesk, layReplicas, layHeads, layLists, layRoom}
 use Rattle.room.specs.Bounds.{Bounds}
 use Rattle.clock.specs.Tick.{firstOpen, stopsAt, tickOn}
@@ -27,20 +20,6 @@ use Rattle.clock.specs.TickLaws.{stopOf, isOverdue, no-wrap, stop-known,
 use Rattle.clock.specs.Known.{Known}
 use Rattle.clock.specs.KnownLaws.{known-grows}
 use Rattle.clock.specs.Clocked.{clockOn}
-
--- every replica halts, laid out
-halts-laid : (replica : ℕ → Rules.Replica) → map haltOn (layReplicas replica) ≡ layReplicas (λ x. halt (replica x))
-unfolding layReplicas
-halts-laid replica = map-tab haltOn 7 (λ x. layReplica (replica x)) ∙ ap (tab 7) (fun-ext (λ x. halt-laid (replica x)))
-
--- the replicas: halted where it became late, else as they were
-pub replicas-laid
-    : (kit : Kit) (r : Room) (gap : ℕ)
-    → layReplicas (tick kit r gap .replica)
-    ≡ pick (not (isSome (r .late)) && isSome (tick kit r gap .late)) (map haltOn (layReplicas (r .replica))) (layReplicas (r .replica))
-replicas-laid kit r gap =
-    let turned = not (isSome (r .late)) && isSome (tick kit r gap .late) in
-    ap layReplicas (fun-ext (tick-ticked kit r gap .replica)) ∙ split turned (λ t. rw t (sym (halts-laid (r .replica)))) (λ t. rw t)
 
 -- how many are known to be answered afterwards: once it is late nothing is looked at any more
 abbrev pub knownAfter : Kit → Room → ℕ → ℕ → ℕ
@@ -56,19 +35,17 @@ module _ (kit : Kit) (r : Room) (known gap : ℕ) (b : Bounds kit r) (k : Known 
   pub desk-laid
       : tickOn (layDesk r known) gap (layRoles kit) (layTable kit) (pad 64 (r .submitted)) (pad 64 (r .ticks)) (layLedger (r .counter)) (layIssued (r .counter))
       ≡ layDesk (tick kit r gap) (knownAfter kit r known gap)
-  unfolding tickOn stopsAt firstOpen layDesk layRoles tick withClock panicAll
+  unfolding tickOn stopsAt firstOpen layDesk layRoles tick withClock withLate
   desk-laid =
       rw (no-wrap kit r known gap b k small)
-      (split (isSome (r .late)) (λ e. rw e (rw e)) (λ e. rw (e, overdue-found kit r known gap b k small) (split (isOverdue kit r known gap) (λ o. rw o) (λ o. rw o (rw e)))))
+      (split (isSome (r .late)) (λ e. rw e (rw e))
+      (λ e. rw (e, overdue-found kit r known gap b k small) (split (isOverdue kit r known gap) (λ o. rw o) (λ o. rw (o, none-of (r .late) e)))))
 
   -- all parts
   pub clock-laid : layRoom (tick kit r gap) (knownAfter kit r known gap) ≡ clockOn (layRoles kit) (layTable kit) (layRoom r known) gap
   unfolding layRoom clockOn layDesk
   clock-laid =
       let t = tick-ticked kit r gap in
-      let replicas =
-      replicas-laid kit r gap
-      ∙ ap (λ (d : Desk). pick (not (isSome (r .late)) && d .late) (map haltOn (layReplicas (r .replica))) (layReplicas (r .replica))) (sym desk-laid) in
       λ j. record {
         desk = sym desk-laid j;
         requests = pad 64 (t .submitted j);
@@ -77,5 +54,5 @@ module _ (kit : Kit) (r : Room) (known gap : ℕ) (b : Bounds kit r) (k : Known 
         lists = layLists (t .histories j);
         ledger = layLedger (t .counter j);
         issued = layIssued (t .counter j);
-        replicas = replicas j;
+        replicas = layReplicas (t .replica j);
       }

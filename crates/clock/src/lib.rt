@@ -1,16 +1,12 @@
 // The clock comes first in every event: the gap is added, and lateness is tested once, before the event. Here is what that does to the
-// desk, whether a request is answered, and how every running replica halts at the late tick.
+// desk, and whether a request is answered. Nothing else is touched: lateness halts nobody.
 ghost use mathlib.Core.Path.{_≡_};
-ghost use mathlib.Core.Bool.{not, _&&_};
-ghost use mathlib.Core.List.{map};
 ghost use Rattle.terms.specs.declared.Content.the-variants.{Update};
 ghost use Rattle.rules.specs.Reading.{isContent, secondOf};
-ghost use Rattle.replica.specs.Record.{haltOn};
 ghost use Rattle.clock.specs.Answered.{chosen, updatedBy, answeredOn};
 ghost use Rattle.clock.specs.Tick.{dueAt, isDue, passed, firstOpen, tickOn};
 use ledger::Issued;
 use ledger::Ledger;
-use replica::Replica;
 use room::Desk;
 use room::Roles;
 use terms::Content;
@@ -217,28 +213,4 @@ pub fn tick(
         return desk;
     }
     desk
-}
-
-// Whether it became late: late now and not before.
-pub fn turned(was: bool, is: bool) -> bool
-    ensures { λ r. ⌜ r ≡ (not was && is) ⌝ }
-{
-    if was {
-        return false;
-    }
-    is
-}
-
-// Every running replica halts.
-pub fn halt_all(mut replicas: [Replica; 7]) -> [Replica; 7]
-    ensures { λ r. ⌜ r ≡ map haltOn replicas ⌝ }
-{
-    let mut x: usize = 0;
-    while x < 7 {
-        let p = replicas[x];
-        let q = p.halt();
-        replicas[x] = q;
-        x = x + 1;
-    }
-    replicas
 }

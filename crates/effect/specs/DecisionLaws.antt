@@ -209,7 +209,7 @@ module _ (kit : Kit) (r : Room) (known : ℕ) (b : Bounds kit r) (me : ℕ) (bel
 
   pub done-panic : (list : List ℕ) → isRunning (p .condition) ≡ true → Done Panic list
   unfolding doneOn enterOn applyOn countedOn carryOut layRoom withReplica
-  done-panic list running = rw (halt-laid p, running) (acted-laid r known (r .counter) me (withCondition p Halted))
+  done-panic list running = rw (halt-laid p running) (acted-laid r known (r .counter) me (withCondition p Halted))
 
   -- ---- what is entered
 

@@ -1,20 +1,17 @@
 -- Laws of Turn: a turn from what its steps promise, and one event more. Assumes nothing.
 use mathlib.Core.Path.{_≡_, sym, ap, _∙_}
-use mathlib.Core.Bool.{false, not, _&&_}
-use mathlib.Core.List.{List, map}
+use mathlib.Core.Bool.{false}
+use mathlib.Core.List.{List}
 use Prim.Native.Nat.{ℕ, suc, _+_, _-_, _≤_, _<_}
 use native.Mathlib.Omega.{arith}
 use lib.ListN.{getD, set}
 use lib.Seq.{set-getD}
 use lib.Dec.{leb}
 use borrow.Author.Tests.{leb-false}
-use Rattle.terms.specs.Lists.{pick}
 use Rattle.terms.specs.ListLaws.{split}
 use Rattle.terms.specs.declared.Event.{Event}
 use Rattle.terms.specs.declared.Event.the-variants as Event
 use Rattle.ledger.specs.Ledger.{book}
-use Rattle.replica.specs.Record.{haltOn}
-use Rattle.replica.specs.declared.Replica.{Replica}
 use Rattle.room.specs.declared.Desk.{Desk}
 use Rattle.room.specs.declared.Roles.{Roles}
 use Rattle.room.specs.declared.Decision.{Decision}
@@ -34,27 +31,27 @@ use Rattle.effect.specs.Done.{doneOn}
 use Rattle.player.specs.Turn.{Stage, noReplica, turnOn, turnsFrom, stage}
 
 -- a turn whose steps' results are what their definitions say of the results before them
-module _ (bytes : List ℕ) (roles : Roles) (table : List ℕ) (k : ℕ) (s : Stage) {e : Next} {list : List ℕ} {desk : Desk} {seats : List Replica} {me : ℕ} {d : Decision} {answer : ℕ} {n : Entered} {c : Desk} (he : e ≡ nextIn bytes (s .at)) (hl : list ≡ listAfter bytes (s .at) (s .list)) (hd : desk ≡ tickOn (s .parts .desk) (e .gap) roles table (s .parts .requests) (s .parts .ticks) (s .parts .ledger) (s .parts .issued)) (hs : seats ≡ pick (not (s .parts .desk .late) && desk .late) (map haltOn (s .parts .replicas)) (s .parts .replicas)) (hm : me ≡ concernedIn (e .event) roles) (hc : d ≡ decideOn (e .event) (standingOf (getD seats me noReplica)) desk roles (getD seats me noReplica .noted) (getD seats me noReplica .marks) (getD seats me noReplica .accepted) table (s .parts .requests) (s .parts .heads) (s .parts .lists) (s .parts .ledger) (s .parts .issued)) (ha : answer ≡ answerNumber (answerOf d)) (hn : n ≡ enterOn d desk (getD seats me noReplica .noted) (getD seats me noReplica .count) list (e .count) (submissions (s .parts .requests) (s .parts .ticks)) (filings (s .parts .heads) (s .parts .lists))) (hk : c ≡ countedOn desk d) where
+module _ (bytes : List ℕ) (roles : Roles) (table : List ℕ) (k : ℕ) (s : Stage) {e : Next} {list : List ℕ} {desk : Desk} {me : ℕ} {d : Decision} {answer : ℕ} {n : Entered} {c : Desk} (he : e ≡ nextIn bytes (s .at)) (hl : list ≡ listAfter bytes (s .at) (s .list)) (hd : desk ≡ tickOn (s .parts .desk) (e .gap) roles table (s .parts .requests) (s .parts .ticks) (s .parts .ledger) (s .parts .issued)) (hm : me ≡ concernedIn (e .event) roles) (hc : d ≡ decideOn (e .event) (standingOf (getD (s .parts .replicas) me noReplica)) desk roles (getD (s .parts .replicas) me noReplica .noted) (getD (s .parts .replicas) me noReplica .marks) (getD (s .parts .replicas) me noReplica .accepted) table (s .parts .requests) (s .parts .heads) (s .parts .lists) (s .parts .ledger) (s .parts .issued)) (ha : answer ≡ answerNumber (answerOf d)) (hn : n ≡ enterOn d desk (getD (s .parts .replicas) me noReplica .noted) (getD (s .parts .replicas) me noReplica .count) list (e .count) (submissions (s .parts .requests) (s .parts .ticks)) (filings (s .parts .heads) (s .parts .lists))) (hk : c ≡ countedOn desk d) where
   pub turn-made
       : {a : Applied}
       → a
-      ≡ applyOn (getD seats me noReplica) d desk me roles table (n .heads) (n .lists) (book (s .parts .ledger) (s .parts .issued))
+      ≡ applyOn (getD (s .parts .replicas) me noReplica) d desk me roles table (n .heads) (n .lists) (book (s .parts .ledger) (s .parts .issued))
       → turnOn bytes roles table k s
-      ≡ stage c (set seats me (a .replica)) (set (s .answers) k answer) (set (s .clocks) k (desk .clock)) (n .requests) (n .ticks) (n .heads)
+      ≡ stage c (set (s .parts .replicas) me (a .replica)) (set (s .answers) k answer) (set (s .clocks) k (desk .clock)) (n .requests) (n .ticks) (n .heads)
       (n .lists) (a .counters .ledger) (a .counters .issued) list (e .next)
   unfolding turnOn clockOn judgeOn doneOn
-  turn-made hp = rw (hk, hp, ha, hn, hc, hm, hs, hd, hl, he)
+  turn-made hp = rw (hk, hp, ha, hn, hc, hm, hd, hl, he)
 
   -- an event that moves nothing: the records and the counters stay
   pub turn-still
       : movesOn d ≡ false
       → turnOn bytes roles table k s
-      ≡ stage c seats (set (s .answers) k answer) (set (s .clocks) k (desk .clock)) (n .requests) (n .ticks) (n .heads) (n .lists)
+      ≡ stage c (s .parts .replicas) (set (s .answers) k answer) (set (s .clocks) k (desk .clock)) (n .requests) (n .ticks) (n .heads) (n .lists)
       (s .parts .ledger) (s .parts .issued) list (e .next)
   turn-still hq =
       turn-made
-      (sym (still (getD seats me noReplica) desk me roles table (n .heads) (n .lists) (book (s .parts .ledger) (s .parts .issued)) d hq))
-      ∙ rw (set-getD seats me noReplica)
+      (sym (still (getD (s .parts .replicas) me noReplica) desk me roles table (n .heads) (n .lists) (book (s .parts .ledger) (s .parts .issued)) d hq))
+      ∙ rw (set-getD (s .parts .replicas) me noReplica)
 
 -- the record concerned is one of the seven
 seven : (n : ℕ) → belowSeven n < 7

@@ -52,13 +52,8 @@ pub fn play(
     while k < n {
         let e = kit::next_event(bytes, at, &mut list);
         let event = e.event;
-        let was = desk.late;
         let later = clock::tick(desk, e.gap, roles, table, requests, ticks, ledger, issued);
         desk = later;
-        if clock::turned(was, desk.late) {
-            let halted = clock::halt_all(replicas);
-            replicas = halted;
-        }
         clocks[k] = desk.clock;
         let me = judge::concerned(event, roles);
         let p = replicas[me];

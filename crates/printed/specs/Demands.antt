@@ -17,7 +17,7 @@ use Rattle.terms.specs.declared.KitAnswer.the-variants.{Accepted}
 use Rattle.rules.specs.Clock.{tick}
 use Rattle.rules.specs.Play.{after, step, answer}
 use Rattle.rules.specs.Growth.{after-suc}
-use Rattle.rules.specs.laws.Refused.{refused-is-ticked}
+use Rattle.rules.specs.laws.Refused.{Ticked, tick-ticked, refused-is-ticked}
 use Rattle.rules.specs.agreement.Theorem.{SettledListsAgree, settled-lists-agree}
 use Rattle.room.specs.Layout.{layRoles, layTable}
 use Rattle.number.specs.Number.{Bytes}
@@ -64,9 +64,12 @@ pub record Demands (bytes : List ℕ) (kit : Kit) : Type 0 where
   pub spells : Spells bytes kit
   -- demand 1: every event is answered by number
   pub answers : (n : ℕ) → n < length (kit .events) → Answered kit n
-  -- a refused event leaves the room as the clock and lateness left it
+  -- a refused event leaves the room as the clock left it
   pub refused : (n : ℕ) (e : Entry) → nth (kit .events) n ≡ some e → (step kit (after kit n) e .answer ≡ Answer.Taken → ⊥)
       → after kit (suc n) ≡ tick kit (after kit n) (e .gap)
+  -- that is, it changes nothing but the clock and the late tick
+  pub refused-only : (n : ℕ) (e : Entry) → nth (kit .events) n ≡ some e → (step kit (after kit n) e .answer ≡ Answer.Taken → ⊥)
+      → Ticked (after kit n) (e .gap) (after kit (suc n))
   -- demand 2: after each event the loop's parts, clocks and answers are the rules'
   pub shows : (n : ℕ) → n ≤ length (kit .events)
       → Shows bytes kit n (turnsFrom bytes (layRoles kit) (layTable kit) 0 n (first-stage bytes kit spells))
@@ -74,6 +77,10 @@ pub record Demands (bytes : List ℕ) (kit : Kit) : Type 0 where
   pub prints : printedText bytes ≡ playText kit
   -- demand 3
   pub agree : SettledListsAgree kit
+
+refused-ticks : (kit : Kit) (n : ℕ) (e : Entry) → nth (kit .events) n ≡ some e → (step kit (after kit n) e .answer ≡ Answer.Taken → ⊥)
+    → after kit (suc n) ≡ tick kit (after kit n) (e .gap)
+refused-ticks kit n e is untaken = after-suc kit n e is ∙ refused-is-ticked kit (after kit n) e untaken
 
 pub demands : (bytes : List ℕ) → Bytes bytes → checkOf bytes ≡ Accepted → Demands bytes (kitOf bytes)
 unfolding answer
@@ -84,7 +91,8 @@ demands bytes are e =
       spells = s;
       answers = λ n h. let at = nth-in (kit .events) n h in
           record { said = step kit (after kit n) (at .0) .answer; is = rw (at .1); number = event-number (step kit (after kit n) (at .0) .answer) };
-      refused = λ n f is taken. after-suc kit n f is ∙ refused-is-ticked kit (after kit n) f taken;
+      refused = refused-ticks kit;
+      refused-only = λ n f is untaken. rw (refused-ticks kit n f is untaken) (tick-ticked kit (after kit n) (f .gap));
       shows = λ n fits. player-shows bytes kit s n fits (first-stage bytes kit s) (is-fresh bytes kit s);
       prints = play-printed bytes kit s;
       agree = settled-lists-agree kit (s .good);

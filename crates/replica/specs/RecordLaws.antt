@@ -1,6 +1,6 @@
 -- Laws of the record: where a replica of the rules is laid out, each step and each reading is the rules'. Assumes nothing.
 use mathlib.Core.Path.{_≡_, refl, _∙_}
-use mathlib.Core.Bool.{Bool, false}
+use mathlib.Core.Bool.{Bool, true, false}
 use mathlib.Core.List.{List, [], _∷_, _++_}
 use Prim.Native.Nat.{ℕ, zero, suc, _+_, _-_, _≤_, _<_}
 use native.Mathlib.Omega.{arith}
@@ -8,7 +8,7 @@ use lib.ListN.{length, take, replicate}
 use lib.Dec.{eqb}
 use borrow.Author.Tests.{le-ltb, le-leb, lt-leb, ne-eqb, eqb-true, eqb-false}
 use Rattle.terms.specs.Lists.{pick, leastOver, countBelow}
-use Rattle.terms.specs.ListLaws.{split, length-snoc}
+use Rattle.terms.specs.ListLaws.{split, no-way, length-snoc}
 use Rattle.terms.specs.Kit.{Kit, marksActive}
 use Rattle.terms.specs.Padding.{pad, take-pad, getD-pad, set-pad, pad-nil}
 use Rattle.terms.specs.Tabulate.{getD-grid, set-grid, grid-constant}
@@ -16,7 +16,6 @@ use Rattle.terms.specs.declared.Condition.{Condition}
 use Rattle.terms.specs.declared.Condition.the-variants.{Running, Halted, Closed, Faulty}
 use Rattle.rules.specs.Table.{up, sw, isActive, actives, activesFrom}
 use Rattle.rules.specs.Room as Rules
-use Rattle.rules.specs.Clock.{halt}
 use Rattle.rules.specs.Reading.{isRunning, settledCount}
 use Rattle.rules.specs.Deliver.{markOfPair, switches}
 use Rattle.replica.specs.declared.Replica.{Replica}
@@ -59,15 +58,16 @@ module _ (p : Rules.Replica) where
   unfolding layReplica closeOn markOn Rules.withMark Rules.withCondition
   close-laid m = refl
 
-  pub halt-laid : haltOn (layReplica p) ≡ layReplica (halt p)
+  -- a running one
+  pub halt-laid : isRunning (p .condition) ≡ true → haltOn (layReplica p) ≡ layReplica (Rules.withCondition p Halted)
   unfolding layReplica haltOn Rules.withCondition
   halt-laid = by-condition (p .condition)
     where
-      by-condition : (c : Condition) → halted (layReplica p) c ≡ layReplica (pick (isRunning c) (Rules.withCondition p Halted) p)
-      by-condition Running = refl
-      by-condition Halted = refl
-      by-condition Closed = refl
-      by-condition Faulty = refl
+      by-condition : (c : Condition) → isRunning c ≡ true → halted (layReplica p) c ≡ layReplica (Rules.withCondition p Halted)
+      by-condition Running e = refl
+      by-condition Halted e = no-way (cc)
+      by-condition Closed e = no-way (cc)
+      by-condition Faulty e = no-way (cc)
 
   -- ---- what is read
 

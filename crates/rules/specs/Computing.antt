@@ -8,6 +8,7 @@ use Rattle.rules.specs.Room.{
   freshReplica,
   freshRoom,
   withClock,
+  withLate,
   withReplica,
   issue,
   withHistory,
@@ -20,7 +21,7 @@ use Rattle.rules.specs.Room.{
   hold,
 }
 use Rattle.rules.specs.Reading.{settledCount, settledNoted, heldList, settled, answeredAt, answered}
-use Rattle.rules.specs.Clock.{panicAll, tick}
+use Rattle.rules.specs.Clock.{tick}
 use Rattle.rules.specs.Outcome.{refuse}
 use Rattle.rules.specs.Submit.{afterSubmit, onSubmit, onIssue, onFile}
 use Rattle.rules.specs.Deliver.{
@@ -47,8 +48,8 @@ use Rattle.rules.specs.Play.{onEvent, step, play, after, answer}
 -- the room after the first n events; to unfold it is to unfold all that its line names
 unfoldable pub computing : Kit → ℕ → Room
 unfolding
-    nextMark isActive isMarkedFaulty actives switchLeader freshReplica freshRoom withClock withReplica issue withHistory remember withCondition withMark
-    note notePair accept hold settledCount settledNoted heldList settled answeredAt answered panicAll tick refuse afterSubmit onSubmit onIssue onFile settle
+    nextMark isActive isMarkedFaulty actives switchLeader freshReplica freshRoom withClock withLate withReplica issue withHistory remember withCondition withMark
+    note notePair accept hold settledCount settledNoted heldList settled answeredAt answered tick refuse afterSubmit onSubmit onIssue onFile settle
     expectsPrepare afterPrepare expectsCommit afterCommit onAg expectsPair expectsUpdate afterUpdate onUp switches afterSwitch onSw isTooLate hasWrongRoles
     onDeliver onPanic built afterBuild onBuild isCommitted isSettledBy isValid afterHand onHand onEvent step play after answer
 computing kit n = after kit n

@@ -7,7 +7,7 @@ use Rattle.terms.specs.Lists.{nth}
 use Rattle.terms.specs.Kit.{Kit, Entry}
 use Rattle.terms.specs.Numbers.{answerNumber, kindOf}
 use Rattle.terms.specs.declared.Content.the-variants.{Prepare, Update, History, Switch}
-use Rattle.terms.specs.declared.Condition.the-variants.{Halted, Closed}
+use Rattle.terms.specs.declared.Condition.the-variants.{Running, Halted, Closed}
 use Rattle.terms.specs.declared.Event.the-variants.{Submit, Issue, Deliver, Hand, Panic, Idle, Build, File}
 use Rattle.terms.specs.declared.Answer.{Answer}
 use Rattle.terms.specs.declared.Answer.the-variants.{Taken, SubmissionsFull, CounterFull}
@@ -47,6 +47,21 @@ printedNumbers =
 -- request 7 is submitted twice, the second time after this gap
 abbrev pub twice : ℕ → Kit
 twice gap = kitOf 1 (1 ∷ 1 ∷ 0 ∷ []) (at 0 (Submit 7) ∷ at gap (Submit 7) ∷ [])
+
+-- request 7 waits too long before request 5 is submitted; PREPARE and COMMIT of 7 come; the switch leader is to build before a PANIC reaches it,
+-- and after
+abbrev pub lateRoom : Kit
+lateRoom =
+    kitOf 1 (1 ∷ 1 ∷ 0 ∷ [])
+    (at 0 (Submit 7)
+    ∷ at 99 (Submit 5)
+    ∷ at 0 (Deliver 0 ag 1 1)
+    ∷ at 0 (Deliver 1 ag 1 0)
+    ∷ at 0 Build
+    ∷ at 0 (Panic 1)
+    ∷ at 0 (Deliver 0 ag 2 1)
+    ∷ at 0 Build
+    ∷ [])
 
 -- f = 2: replica 4 is faulty and passive, and issues SWITCH of the built history twice; replica 2 is handed it and gets both, then replica 1's
 abbrev pub oneSender : Kit
@@ -168,8 +183,19 @@ pub record EasyToGetWrong : Type 0 where
   -- the gap of a refused event counts, for the clock and for lateness
   pub refused-gap : (answers (twice 9) 2 ≡ 0 ∷ 11 ∷ []) × (after (twice 9) 2 .clock ≡ 9) × (after (twice 9) 2 .late ≡ none)
   pub refused-late : (answers (twice 10) 2 ≡ 0 ∷ 11 ∷ []) × (after (twice 10) 2 .clock ≡ 10) × (after (twice 10) 2 .late ≡ some 10)
-  -- the late tick is the submission plus the patience, not the clock; passive replicas halt too
-  pub late-tick : (after (twice 99) 2 .late ≡ some 10) × (after (twice 99) 2 .replica 2 .condition ≡ Halted)
+  -- the late tick is the submission plus the patience, not the clock
+  pub late-tick : after (twice 99) 2 .late ≡ some 10
+  -- nobody halts by it: the leader prepares what comes later, PREPARE and COMMIT are taken, the switch leader cannot build
+  pub late-goes-on
+      : (answers lateRoom 8 ≡ 0 ∷ 0 ∷ 0 ∷ 0 ∷ 24 ∷ 0 ∷ 17 ∷ 0 ∷ [])
+      × (after lateRoom 2 .late ≡ some 10)
+      × (after lateRoom 2 .counter 0 ag ≡ Prepare 7 ∷ Prepare 5 ∷ [])
+      × (settled lateRoom (after lateRoom 4) 0 ≡ 7 ∷ [])
+  -- and the PANIC halts the one that it reaches
+  pub panic-halts-one
+      : (after lateRoom 8 .replica 0 .condition ≡ Running)
+      × (after lateRoom 8 .replica 1 .condition ≡ Halted)
+      × (after lateRoom 8 .replica 2 .condition ≡ Running)
   -- the last COMMIT left out of a filed history: 22; all else alike and the COMMIT in it: taken
   pub last-commit : (answers (filing 0) 7 ≡ 0 ∷ 0 ∷ 0 ∷ 0 ∷ 0 ∷ 0 ∷ 22 ∷ []) × (answers (filing 1) 7 ≡ 0 ∷ 0 ∷ 0 ∷ 0 ∷ 0 ∷ 0 ∷ 0 ∷ [])
   -- two SWITCHes of one sender are taken and are one; another sender's makes two
@@ -210,7 +236,9 @@ easyToGetWrong =
       play-late = refl;
       refused-gap = (refl, refl, refl);
       refused-late = (refl, refl, refl);
-      late-tick = (refl, refl);
+      late-tick = refl;
+      late-goes-on = (refl, refl, refl, refl);
+      panic-halts-one = (refl, refl, refl);
       last-commit = (refl, refl);
       one-sender = (refl, refl, refl);
       expected-stays = refl;

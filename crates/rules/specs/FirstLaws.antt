@@ -9,6 +9,7 @@ use Prim.Native.Nat.{ℕ, suc, _≤_, _<_}
 use lib.ListN.{take}
 use Rattle.terms.specs.Lists.{nth}
 use Rattle.terms.specs.Kit.{Kit, Entry, GoodKit}
+use Rattle.terms.specs.declared.Condition.the-variants.{Halted}
 use Rattle.terms.specs.declared.Event.the-variants.{Build}
 use Rattle.terms.specs.declared.Answer.{Answer}
 use Rattle.terms.specs.declared.Answer.the-variants.{Taken, CannotBuild}
@@ -18,16 +19,28 @@ use Rattle.rules.specs.Play.{after, answer}
 use Rattle.rules.specs.Growth.{Grows, after-grows}
 use Rattle.rules.specs.Filings.{build-once}
 use Rattle.rules.specs.Rising.{countIn}
-use Rattle.rules.specs.laws.Refused.{refused-after}
+use Rattle.rules.specs.laws.Refused.{Ticked, refused-after, refused-ticked}
 use Rattle.rules.specs.laws.Certificates.{AtMostThree, at-most-three-after}
 use Rattle.rules.specs.laws.Time.{gaps, clock-is-sum, late-stays, Timed, timed}
 use Rattle.rules.specs.laws.Answered.{answered-after}
+use Rattle.rules.specs.laws.Halting.{TakenPanic, halts-by-panic}
+use Rattle.rules.specs.laws.Patience.{withPatience, ButLate, patience-room, patience-answer}
 use Rattle.rules.specs.agreement.Bounds.{Bounds, bounds, settles-one}
 
 pub record FirstLaws (kit : Kit) : Type 0 where
   -- an event with another answer than Taken leaves the ticked room
   pub refused
       : (n : ℕ) (e : Entry) (a : Answer) → nth (kit .events) n ≡ some e → answer kit n ≡ some a → a ≢ Taken → after kit (suc n) ≡ tick kit (after kit n) (e .gap)
+  -- and so changes nothing but the clock and the late tick
+  pub refused-only
+      : (n : ℕ) (e : Entry) (a : Answer) → nth (kit .events) n ≡ some e → answer kit n ≡ some a → a ≢ Taken → Ticked (after kit n) (e .gap) (after kit (suc n))
+  -- a replica halts only at a PANIC that it takes
+  pub halts
+      : (n : ℕ) (e : Entry) (a : Answer) (x : ℕ) → nth (kit .events) n ≡ some e → answer kit n ≡ some a
+      → after kit n .replica x .condition ≢ Halted → after kit (suc n) .replica x .condition ≡ Halted → TakenPanic (e .event) a x
+  -- the patience decides the late tick and nothing else
+  pub patience-room : (patience n : ℕ) → ButLate (after kit n) (after (withPatience kit patience) n)
+  pub patience-answer : (patience n : ℕ) → answer (withPatience kit patience) n ≡ answer kit n
   -- counters, submissions, ticks and histories only grow, and what stands at a value or place stays
   pub grows : (m n : ℕ) → m ≤ n → Grows (after kit m) (after kit n)
   -- no event adds more than three certificates
@@ -55,6 +68,10 @@ pub first-laws : (kit : Kit) → FirstLaws kit
 first-laws kit =
     record {
       refused = refused-after kit;
+      refused-only = refused-ticked kit;
+      halts = halts-by-panic kit;
+      patience-room = patience-room kit;
+      patience-answer = patience-answer kit;
       grows = after-grows kit;
       certificates = at-most-three-after kit;
       clock = clock-is-sum kit;

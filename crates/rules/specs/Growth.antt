@@ -1,8 +1,8 @@
 -- Counters, submissions, their ticks and histories only grow, in every play: what stands at a value or place stands there for ever.
 -- Assumes nothing.
 use mathlib.Core.Path.{_≡_, refl, ap, _∙_}
-use mathlib.Core.Bool.{Bool, true, false, not, _&&_}
-use mathlib.Core.Option.{Option, some}
+use mathlib.Core.Bool.{Bool, true, false, _&&_}
+use mathlib.Core.Option.{some}
 use mathlib.Core.List.{List, [], _∷_, _++_}
 use Prim.Native.Nat.{ℕ, zero, suc, _+_, _-_, _≤_}
 use native.Mathlib.Omega.{arith}
@@ -10,7 +10,7 @@ use lib.ListN.{length, take, drop}
 use lib.Seq.{take-add}
 use lib.Dec.{eqb, leb, ltb}
 use borrow.Author.Tests.{eqb-true}
-use Rattle.terms.specs.Lists.{pick, nth, holds, Sub, isSome}
+use Rattle.terms.specs.Lists.{pick, nth, holds, Sub}
 use Rattle.terms.specs.ListLaws.{no-way, pick-elim, and-l, and-r, nth-append, holds-nth, holds-at}
 use Rattle.terms.specs.Kit.{Kit, Entry}
 use Rattle.terms.specs.declared.Content.{Content}
@@ -19,8 +19,8 @@ use Rattle.terms.specs.declared.Event.the-variants.{Submit, Issue, Deliver, Han
 use Rattle.terms.specs.declared.Answer.{Answer}
 use Rattle.rules.specs.Table.{ag, up, sw}
 use Rattle.rules.specs.Reading.{isRunning}
-use Rattle.rules.specs.Room.{Room, Replica, Filing, freshRoom, accept, withClock, withReplica, issue, withHistory, remember}
-use Rattle.rules.specs.Clock.{overdue, panicAll, tick}
+use Rattle.rules.specs.Room.{Room, Replica, Filing, freshRoom, accept, withClock, withLate, withReplica, issue, withHistory, remember}
+use Rattle.rules.specs.Clock.{tick}
 use Rattle.rules.specs.Outcome.{Outcome, refuse}
 use Rattle.rules.specs.Submit.{afterSubmit, onSubmit, onIssue, onFile}
 use Rattle.rules.specs.Deliver.{settle, switches, afterPrepare, afterCommit, afterUpdate, afterSwitch, onAg, onUp, onSw, onDeliver}
@@ -62,14 +62,6 @@ grows-same ec es et eh =
 pub grows-withReplica : (r : Room) (x : ℕ) (p : Replica) → Grows r (withReplica r x p)
 unfolding withReplica
 grows-withReplica r x p = grows-same refl refl refl refl
-
-pub grows-withClock : (r : Room) (n : ℕ) → Grows r (withClock r n)
-unfolding withClock
-grows-withClock r n = grows-same refl refl refl refl
-
-pub grows-panicAll : (r : Room) (late : Option ℕ) → Grows r (panicAll r late)
-unfolding panicAll
-grows-panicAll r late = grows-same refl refl refl refl
 
 pub grows-remember : (r : Room) (request : ℕ) → Grows r (remember r request)
 unfolding remember
@@ -171,11 +163,8 @@ event-grows kit r Build list = grows-build kit r
 event-grows kit r (File j k) list = grows-refuse _ _ _ (grows-withHistory r _ _)
 
 pub tick-grows : (kit : Kit) (r : Room) (gap : ℕ) → Grows r (tick kit r gap)
-unfolding tick
-tick-grows kit r gap =
-    let later = withClock r (r .clock + gap) in
-    let g = grows-withClock r (r .clock + gap) in
-    grows-pick (not (isSome (r .late)) && isSome (overdue kit later (later .submitted) (later .ticks))) (grows-trans g (grows-panicAll _ _)) g
+unfolding tick withClock withLate
+tick-grows kit r gap = grows-same refl refl refl refl
 
 pub step-grows : (kit : Kit) (r : Room) (e : Entry) → Grows r (step kit r e .room)
 unfolding step

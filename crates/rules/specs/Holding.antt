@@ -1,6 +1,6 @@
 -- What stays with a replica once it has it: a held history, a closed condition, being faulty. In every play of any kit. Assumes nothing.
 use mathlib.Core.Path.{_≡_, refl, sym, ap, _∙_}
-use mathlib.Core.Bool.{Bool, true, false, not, _&&_, or-true}
+use mathlib.Core.Bool.{Bool, true, false, _&&_, or-true}
 use mathlib.Core.Logic.{_≢_}
 use mathlib.Core.Option.{Option, none, some}
 use mathlib.Core.List.{List, [], _∷_, _++_}
@@ -19,12 +19,12 @@ use Rattle.terms.specs.declared.Event.{Event}
 use Rattle.terms.specs.declared.Event.the-variants.{Submit, Issue, Deliver, Hand, Panic, Idle, Build, File}
 use Rattle.terms.specs.declared.Answer.{Answer}
 use Rattle.rules.specs.Table.{ag, up, sw, switchLeader}
-use Rattle.rules.specs.Room.{Room, Replica, withClock, withReplica, issue, withHistory, remember}
+use Rattle.rules.specs.Room.{Room, Replica, withClock, withLate, withReplica, issue, withHistory, remember}
 use Rattle.rules.specs.Room.{withCondition, withMark, note, notePair, accept, hold}
 use Rattle.rules.specs.RoomLaws.{replica-other, counter-other}
 use Rattle.rules.specs.Reading.{isRunning, isClosed, isFaulty}
 use Rattle.rules.specs.ReadingLaws.{running-open, running-correct}
-use Rattle.rules.specs.Clock.{overdue, panicAll, tick}
+use Rattle.rules.specs.Clock.{tick}
 use Rattle.rules.specs.Outcome.{Outcome, refuse}
 use Rattle.rules.specs.Submit.{afterSubmit, onSubmit, onIssue, onFile}
 use Rattle.rules.specs.Deliver.{settle, afterPrepare, afterCommit, onAg, afterUpdate, onUp, switches, afterSwitch, onSw, onDeliver}
@@ -159,34 +159,9 @@ calm-record r x p eh ec fp fx =
     faulty-now : (y : ℕ) → isFaulty (pick (eqb y x) p (r .replica y) .condition) ≡ isFaulty (r .replica y .condition)
     faulty-now y = split (eqb y x) (λ t. rw (t, eqb-true y x t) (fp ∙ sym fx)) (λ t. rw t)
 
-calm-panicAll : (r : Room) (late : Option ℕ) → Calm r (panicAll r late)
-unfolding panicAll withCondition
-calm-panicAll r late =
-    record {
-      histories-same = refl;
-      filed-same = refl;
-      held-same = λ x. split (isRunning (r .replica x .condition)) (λ t. rw t) (λ t. rw t);
-      closed-kept = λ x e. split (isRunning (r .replica x .condition)) (λ t. no-way (cc (running-open (r .replica x .condition) t))) (λ t. rw t e);
-      faulty-same = faulty-now;
-      untouched-here = λ x e.
-          split (isRunning (r .replica x .condition)) (λ t. no-way (cc (running-correct (r .replica x .condition) t))) (λ t. rw t);
-      others-same = λ x n e l. refl;
-      faulty-few = λ f x n d. f x n (sym (faulty-now x) ∙ d);
-    }
-  where
-    faulty-now : (x : ℕ) → isFaulty (panicAll r late .replica x .condition) ≡ isFaulty (r .replica x .condition)
-    faulty-now x = split (isRunning (r .replica x .condition)) (λ t. rw (t, running-correct (r .replica x .condition) t)) (λ t. rw t)
-
-calm-clock : (r : Room) (n : ℕ) → Calm r (withClock r n)
-unfolding withClock
-calm-clock r n = calm-same refl refl refl refl
-
 pub calm-tick : (kit : Kit) (r : Room) (gap : ℕ) → Calm r (tick kit r gap)
-unfolding tick
-calm-tick kit r gap =
-    let later = withClock r (r .clock + gap) in
-    pick-elim (λ z. Calm r z) (not (isSome (r .late)) && isSome (overdue kit later (later .submitted) (later .ticks)))
-    (λ t. calm-trans (calm-clock r (r .clock + gap)) (calm-panicAll later _)) (λ t. calm-clock r (r .clock + gap))
+unfolding tick withClock withLate
+calm-tick kit r gap = calm-same refl refl refl refl
 
 module _ (r : Room) where
   calm-refuse : (t : Bool) (a : Answer) (o : Outcome) → (t ≡ false → Calm r (o .room)) → Calm r (refuse t a r o .room)

@@ -1,4 +1,5 @@
--- Document 01, "Both sides of the line": P1 to P12 and its two lines about f = 2, each an equation over the definitions, under one theorem. Assumes nothing.
+-- Document 01, "Both sides of the line": P1 to P12 and its two lines about f = 2, each an equation over the definitions, under one theorem. P8 is
+-- as request L3 has it. Assumes nothing.
 use mathlib.Core.Path.{_≡_, refl}
 use mathlib.Core.Option.{some}
 use mathlib.Core.List.{List, [], _∷_, _++_}
@@ -15,7 +16,7 @@ use Rattle.terms.specs.declared.Content.the-variants.{Commit, History}
 use Rattle.terms.specs.declared.Condition.the-variants.{Closed}
 use Rattle.terms.specs.declared.Event.{Event}
 use Rattle.terms.specs.declared.Event.the-variants.{Submit, Issue, Deliver, Hand, Panic, Build, File}
-use Rattle.terms.specs.declared.Answer.the-variants.{Taken, TooLate, NotNext, NotValid}
+use Rattle.terms.specs.declared.Answer.the-variants.{Taken, NotNext, NotValid}
 use Rattle.rules.specs.Table.{ag, up, sw}
 use Rattle.rules.specs.Reading.{contentAt, settled}
 use Rattle.rules.specs.Play.{after, answer}
@@ -95,8 +96,8 @@ pub record PaperTable : Type 0 where
   pub p6 : markOf (2147483648 ∷ 1 ∷ []) ≡ 1
   -- third gap 6: clock 9, taken
   pub p7 : (after (printed 6) 3 .clock ≡ 9) × (answer (printed 6) 2 ≡ some Taken)
-  -- third gap 7: clock 10, late 10, answer 17
-  pub p8 : (after (printed 7) 3 .clock ≡ 10) × (after (printed 7) 3 .late ≡ some 10) × (answer (printed 7) 2 ≡ some TooLate)
+  -- third gap 7: clock 10, late 10, answer 0
+  pub p8 : (after (printed 7) 3 .clock ≡ 10) × (after (printed 7) 3 .late ≡ some 10) × (answer (printed 7) 2 ≡ some Taken)
   -- event 2 again after itself: 19
   pub p9 : answer repeated 2 ≡ some NotNext
   -- j = k = 1, HISTORY at ag value 2 and up value 2

@@ -1,16 +1,15 @@
 -- One event adds at most 1 to each accepted value and to each ag total; so the settled count of a replica rises by at most one an event. In every
 -- room, for every event that a kit may have. Assumes nothing.
 use mathlib.Core.Path.{_≡_, refl}
-use mathlib.Core.Bool.{Bool, true, false, not, _&&_}
+use mathlib.Core.Bool.{Bool, true, false, _&&_}
 use mathlib.Core.Logic.{_≢_}
-use mathlib.Core.Option.{Option}
 use mathlib.Core.List.{List, [], _∷_}
 use Prim.Native.Nat.{ℕ, suc, _+_, _≤_}
 use native.Mathlib.Omega.{arith}
 use lib.ListN.{length}
 use lib.Dec.{eqb, ltb, leb}
 use borrow.Author.Tests.{eqb-true, eqb-false}
-use Rattle.terms.specs.Lists.{pick, isSome}
+use Rattle.terms.specs.Lists.{pick}
 use Rattle.terms.specs.ListLaws.{split, pick-elim, and-l, and-r, length-snoc, not-was-false}
 use Rattle.terms.specs.Limits.{nameMax}
 use Rattle.terms.specs.Kit.{Kit, Entry, GoodEvent, GoodEntry, GoodEntries}
@@ -19,12 +18,12 @@ use Rattle.terms.specs.declared.Answer.{Answer}
 use Rattle.terms.specs.declared.Event.{Event}
 use Rattle.terms.specs.declared.Event.the-variants.{Submit, Issue, Deliver, Hand, Panic, Idle, Build, File}
 use Rattle.rules.specs.Table.{ag, up, sw, switchLeader}
-use Rattle.rules.specs.Room.{Room, Replica, put2, withClock, withReplica, issue, withHistory, remember, withCondition, withMark, note}
+use Rattle.rules.specs.Room.{Room, Replica, put2, withClock, withLate, withReplica, issue, withHistory, remember, withCondition, withMark, note}
 use Rattle.rules.specs.Room.{notePair, accept, hold}
 use Rattle.rules.specs.RoomLaws.{accepted-by-one}
 use Rattle.rules.specs.Reading.{isRunning, settledCount}
 use Rattle.rules.specs.ReadingLaws.{settledCount-by-one}
-use Rattle.rules.specs.Clock.{overdue, panicAll, tick}
+use Rattle.rules.specs.Clock.{tick}
 use Rattle.rules.specs.Outcome.{Outcome, refuse}
 use Rattle.rules.specs.Submit.{afterSubmit, onSubmit, onIssue, onFile}
 use Rattle.rules.specs.Deliver.{settle, afterPrepare, afterCommit, onAg, afterUpdate, onUp, switches, afterSwitch, onSw, onDeliver}
@@ -76,14 +75,6 @@ rises-issue r x name c =
 rises-aside : (r : Room) (x name : ℕ) (c : Content) → eqb ag name ≡ false → Rises 0 0 r (issue r x name c)
 unfolding issue
 rises-aside r x name c e = record { accepted = λ y z n. omega arith; total = λ y. rw e (omega arith) }
-
-rises-panicAll : (r : Room) (late : Option ℕ) → Rises 0 0 r (panicAll r late)
-unfolding panicAll withCondition
-rises-panicAll r late =
-    record {
-      accepted = λ x y n. split (isRunning (r .replica x .condition)) (λ t. rw t (omega arith)) (λ t. rw t (omega arith));
-      total = λ x. omega arith;
-    }
 
 -- ---- one event: at most 1 each
 
@@ -176,11 +167,8 @@ rises-event kit r size Build list g = rises-build kit r
 rises-event kit r size (File j k) list g = rises-refuse r _ _ _ λ e. one (omega arith) (omega arith) (rises-same refl refl)
 
 pub rises-tick : (kit : Kit) (r : Room) (gap : ℕ) → Rises 0 0 r (tick kit r gap)
-unfolding tick withClock
-rises-tick kit r gap =
-    let later = withClock r (r .clock + gap) in
-    pick-elim (λ z. Rises 0 0 r z) (not (isSome (r .late)) && isSome (overdue kit later (later .submitted) (later .ticks)))
-    (λ t. rises-trans (rises-same {r₁ = later} refl refl) (rises-panicAll later _)) (λ t. rises-same refl refl)
+unfolding tick withClock withLate
+rises-tick kit r gap = rises-same refl refl
 
 pub step-rises : (kit : Kit) (r : Room) (size : ℕ) (e : Entry) → GoodEntry size e → Rises 1 1 r (step kit r e .room)
 unfolding step

@@ -82,6 +82,19 @@ withClock r n =
       replica = r .replica;
     }
 
+unfoldable pub withLate : Room → Option ℕ → Room
+withLate r late =
+    record {
+      clock = r .clock;
+      late = late;
+      submitted = r .submitted;
+      ticks = r .ticks;
+      histories = r .histories;
+      filed = r .filed;
+      counter = r .counter;
+      replica = r .replica;
+    }
+
 unfoldable pub withReplica : Room → ℕ → Replica → Room
 withReplica r x p =
     record {

@@ -1,5 +1,6 @@
 -- The first laws of the rules: what an event can change (Changes), and from that what refusals leave alone (Refused), what is issued
--- (Certificates), the clock and its ticks (Time), answered requests (Answered) and the late tick (Lateness), at every moment (Moments). FirstLaws
+-- (Certificates), the clock and its ticks (Time), answered requests (Answered) and the late tick (Lateness), at every moment (Moments); that only
+-- a PANIC halts (Halting); what an event looks at (Settings, LateAside), and so that the patience decides the late tick alone (Patience). FirstLaws
 -- has them on one page. Assumes nothing.
 pub mod Moments
 pub mod Changes
@@ -8,3 +9,7 @@ pub mod Certificates
 pub mod Time
 pub mod Answered
 pub mod Lateness
+pub mod Halting
+pub mod Settings
+pub mod LateAside
+pub mod Patience

@@ -3,7 +3,7 @@
 use mathlib.Core.Path.{_≡_, refl, sym, ap, _∙_, fun-ext}
 use mathlib.Core.Bool.{Bool, _&&_}
 use mathlib.Core.Logic.{_≢_}
-use mathlib.Core.List.{List, [], _∷_, map}
+use mathlib.Core.List.{List, [], _∷_}
 use Prim.Native.Nat.{ℕ, zero, suc, _+_, _*_, _/_, _%_, _<_}
 use native.Mathlib.Nat.{le-of-suc-le-suc}
 use native.Mathlib.Omega.{arith}
@@ -92,9 +92,3 @@ pub set-grid-of {ℓ ℓ′} : {A : Type ℓ} {B : Type ℓ′} (h : A → B) (g
 set-grid-of h g x m v hm =
     set-grid (λ y n. h (g y n)) x m (h v) hm
     ∙ ap grid (fun-ext (λ y. fun-ext (λ n. split (eqb n m && eqb y x) (λ t. rw t) (λ t. rw t))))
-
--- each value changed by h
-pub map-tab {ℓ ℓ′} : {A : Type ℓ} {B : Type ℓ′} (h : A → B) (n : ℕ) (f : ℕ → A) → map h (tab n f) ≡ tab n (λ i. h (f i))
-unfolding tab
-map-tab h zero f = refl
-map-tab {B = B} h (suc n) f = ap (λ (l : List B). h (f 0) ∷ l) (map-tab h n (λ i. f (suc i)))

@@ -121,13 +121,11 @@ fn kits() -> Vec<(&'static str, Kit)> {
     let submissions = (1..=EVENTS).map(submit).collect();
     // each request of as many as can be submitted, and then again and again until the next one comes
     let tries = (0..EVENTS).map(|i| submit(1 + i * SUBMISSIONS as u32 / EVENTS)).collect();
-    let mut late = protocol::large(&mut Random::new(3), 3);
-    late.patience = 10_000;
     vec![
         ("f3", protocol::large(&mut Random::new(3), 3)),
         ("f2", protocol::large(&mut Random::new(2), 2)),
         ("f1", protocol::large(&mut Random::new(1), 1)),
-        ("f3-late", late),
+        ("f3-late", late(protocol::large(&mut Random::new(3), 3))),
         ("idle", Kit { events: same(0, Action::Idle), ..frame(3) }),
         ("submissions", Kit { events: submissions, ..frame(3) }),
         ("second tries", Kit { events: tries, ..frame(3) }),
@@ -135,6 +133,22 @@ fn kits() -> Vec<(&'static str, Kit)> {
         ("hands", hands()),
         ("64 KB", full()),
     ]
+}
+
+/// The kit with a short patience, and with a PANIC to everybody in the events after the late one.
+fn late(kit: Kit) -> Kit {
+    let mut kit = Kit { patience: 10_000, ..kit };
+    let impatient = kit.clone();
+    let mut room = Room::new(&impatient);
+    let is_late = |event: &Event| {
+        room.step(event);
+        room.late.is_some()
+    };
+    let first = 1 + impatient.events.iter().position(is_late).expect("somebody waits longer");
+    for (x, event) in kit.events[first..first + impatient.table.len()].iter_mut().enumerate() {
+        event.action = Action::Panic(x);
+    }
+    kit
 }
 
 /// As many numbers as 65,536 bytes can hold: all of one byte, but for the event count.

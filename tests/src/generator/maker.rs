@@ -17,6 +17,8 @@ pub struct Maker<'a> {
     refused: Vec<Action>,
     /// How many histories the faulty switch leader has tried.
     tries: usize,
+    /// How many events there were when it became late, until the PANICs that this brings are on their way.
+    late_at: Option<usize>,
 }
 
 /// A history in the making, and what the switch leader issues for it.
@@ -35,7 +37,7 @@ struct Draft {
 impl<'a> Maker<'a> {
     pub fn new(random: &'a mut Random, style: &'a Style, frame: &'a Kit) -> Maker<'a> {
         let room = Room::new(frame);
-        Maker { random, style, room, events: Vec::new(), plan: VecDeque::new(), refused: Vec::new(), tries: 0 }
+        Maker { random, style, room, events: Vec::new(), plan: VecDeque::new(), refused: Vec::new(), tries: 0, late_at: None }
     }
 
     pub fn run(mut self) -> Kit {
@@ -48,9 +50,14 @@ impl<'a> Maker<'a> {
         while self.events.len() < self.style.events {
             let action = self.next_action();
             let event = Event { gap: self.gap(), action };
+            let was_late = self.room.late.is_some();
             if self.room.step(&event) != 0 {
                 self.refused.push(event.action.clone());
             }
+            if self.room.late.is_some() && !was_late {
+                self.late_at = Some(self.events.len());
+            }
+            self.send_panics();
             if self.random.once_in(20) {
                 self.refused.clear();
             }
@@ -116,7 +123,25 @@ impl<'a> Maker<'a> {
     }
 
     fn is_switching(&self) -> bool {
-        self.events.len() >= self.style.switch_at || self.room.late.is_some()
+        let travelled = self.room.late.is_some() && self.late_at.is_none();
+        self.events.len() >= self.style.switch_at || travelled
+    }
+
+    /// Once the PANIC of a late client has travelled: to some replicas it comes in a row, to others one by one as everything else, to the deaf never.
+    fn send_panics(&mut self) {
+        let Some(late_at) = self.late_at else { return };
+        if self.events.len() < late_at.saturating_add(self.style.travel) {
+            return;
+        }
+        self.late_at = None;
+        let mut reached: Vec<usize> = (0..self.size()).filter(|&x| self.hears(x)).collect();
+        shuffle(self.random, &mut reached);
+        reached.truncate(self.random.below(2 * reached.len() + 1));
+        self.plan.extend(reached.into_iter().map(Action::Panic));
+    }
+
+    fn hears(&self, x: usize) -> bool {
+        self.style.deaf >> x & 1 == 0
     }
 
     fn size(&self) -> usize {
@@ -167,7 +192,7 @@ impl<'a> Maker<'a> {
 
     fn panic(&mut self) -> Option<Action> {
         let to = self.random.below(self.size());
-        (self.room.replicas[to].condition == Condition::Running).then_some(Action::Panic(to))
+        (self.room.replicas[to].condition == Condition::Running && self.hears(to)).then_some(Action::Panic(to))
     }
 
     fn building(&mut self) -> Option<Action> {
@@ -424,7 +449,7 @@ impl<'a> Maker<'a> {
             1..=3 => self.odd_delivery(x, to),
             4..=7 => self.usual_delivery(to),
             8 => self.odd_hand(to),
-            9 if self.is_switching() || self.is_faulty(to) => Action::Panic(to),
+            9 if self.is_switching() && self.hears(to) || self.is_faulty(to) => Action::Panic(to),
             10 => Action::Build,
             11 => Action::Issue { replica: x, name: self.random.below(3), content: any_content(self.random) },
             12 => {

@@ -22,8 +22,12 @@ pub struct Style {
     pub submissions: usize,
     /// Of a hundred events so many are none that the protocol would send.
     pub noise: usize,
-    /// From this event on there are PANICs and the switch.
+    /// From this event on there are PANICs and the switch, late or not.
     pub switch_at: usize,
+    /// So many events after the late tick its PANIC begins to arrive, and the switch may begin.
+    pub travel: usize,
+    /// Whom no PANIC ever reaches: replica x if bit x is 1.
+    pub deaf: usize,
     /// One certificate of a faulty replica in so many has something wrong.
     pub lies: usize,
     /// One gap in so many ends at the edge of somebody's patience.
@@ -64,6 +68,8 @@ pub fn kit(random: &mut Random) -> Kit {
         submissions: if long { 70 } else { random.below(13) },
         noise: if long { 5 } else { random.pick(&[2, 6, 16, 33]) },
         switch_at: if random.once_in(4) { usize::MAX } else { switch_at },
+        travel: random.pick(&[0, 0, 0, 2, 9, 30, usize::MAX]),
+        deaf: if random.once_in(4) { random.below(1 << (2 * f + 1)) } else { 0 },
         lies: random.pick(&[2, 5, 20, 1000]),
         near: random.pick(&[5, 20, 100, 100_000, 100_000, 100_000]),
         gaps: random.pick(&[1, 1, 2, 4, 30]),
@@ -89,6 +95,8 @@ fn histories(random: &mut Random, f: usize) -> Kit {
         submissions: 1 + random.below(5),
         noise: 4,
         switch_at: served,
+        travel: random.pick(&[0, 4]),
+        deaf: 0,
         lies: random.pick(&[20, 1000]),
         near: 100_000,
         gaps: random.pick(&[1, 2]),
@@ -108,6 +116,8 @@ pub fn large(random: &mut Random, f: usize) -> Kit {
         submissions: SUBMISSIONS,
         noise: [90, 78, 58][f - 1],
         switch_at: EVENTS as usize - 200,
+        travel: 0,
+        deaf: 0,
         lies: 1000,
         near: 1 << 40,
         gaps: 100,

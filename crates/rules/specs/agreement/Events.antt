@@ -1,16 +1,15 @@
--- The other events and the clock keep the invariant: submit, issue, PANIC, file, and lateness. Then each event of a good kit does.
+-- The other events and the clock keep the invariant: submit, issue, PANIC, file. Then each event of a good kit does.
 -- Assumes nothing.
 use mathlib.Core.Path.{_≡_, refl, sym, ap, _∙_}
-use mathlib.Core.Bool.{true, false, not, _&&_}
-use mathlib.Core.Option.{Option, none, some}
+use mathlib.Core.Bool.{true, false}
 use mathlib.Core.List.{List, [], _∷_, _++_}
 use Prim.Native.Nat.{ℕ, suc, _+_, _<_}
 use native.Mathlib.Omega.{arith}
 use lib.ListN.{length}
 use borrow.Author.Tests.{leb-false}
 use Rattle.terms.specs.Limits.{requestsMax}
-use Rattle.terms.specs.Lists.{holds, isSome}
-use Rattle.terms.specs.ListLaws.{split, no-way, pick-elim, not-was-false, not-true-false, nth-append, nth-snoc, length-snoc, holds-at, holds-nth}
+use Rattle.terms.specs.Lists.{holds}
+use Rattle.terms.specs.ListLaws.{no-way, pick-elim, not-was-false, not-true-false, nth-append, nth-snoc, length-snoc, holds-at, holds-nth}
 use Rattle.terms.specs.Kit.{Kit, GoodEvent, Entry, GoodEntry}
 use Rattle.terms.specs.declared.Content.{Content}
 use Rattle.terms.specs.declared.Content.the-variants.{Prepare}
@@ -19,15 +18,15 @@ use Rattle.terms.specs.declared.Event.{Event}
 use Rattle.terms.specs.declared.Event.the-variants.{Submit, Issue, Deliver, Hand, Panic, Idle, Build, File}
 use Rattle.rules.specs.Table.{ag, up, isMarkedFaulty}
 use Rattle.rules.specs.TableLaws.{Roles}
-use Rattle.rules.specs.Room.{Room, Replica, withReplica, withClock, issue, remember, withCondition, note}
-use Rattle.rules.specs.Reading.{isRunning, isClosed, isFaulty, settledCount, settledNoted, settled, heldList}
+use Rattle.rules.specs.Room.{Room, Replica, withReplica, withClock, withLate, issue, remember, withCondition, note}
+use Rattle.rules.specs.Reading.{isRunning, isClosed, isFaulty, settledCount, settledNoted}
 use Rattle.rules.specs.ReadingLaws.{running-open, running-correct, settledNoted-rises}
-use Rattle.rules.specs.Growth.{grows-withReplica, grows-withClock, grows-panicAll}
+use Rattle.rules.specs.Growth.{grows-withReplica, tick-grows}
 use Rattle.rules.specs.agreement.Invariant.{FilingBounds, Part, Invariant, part-grows}
 use Rattle.rules.specs.agreement.Changes.{common-note, common-halt, active-submit, active-same, settledCount-submit, passive-same}
 use Rattle.rules.specs.agreement.Frame.{moved-none, moved-record, moved-ag, moved-submission, moved-file, moved-any, Next, next-none}
 use Rattle.rules.specs.agreement.Frame.{next-trans, next-move, next-still, grows-open}
-use Rattle.rules.specs.Clock.{overdue, panicAll, tick}
+use Rattle.rules.specs.Clock.{tick}
 use Rattle.rules.specs.Submit.{afterSubmit, onSubmit, onIssue, onFile}
 use Rattle.rules.specs.Switching.{onPanic}
 use Rattle.rules.specs.Play.{onEvent, step}
@@ -132,11 +131,12 @@ next-file kit r a j n l h =
 
 -- ---- the clock
 
-next-clock : (kit : Kit) (r : Room) → Invariant kit r → (n : ℕ) → Next kit r (withClock r n)
-unfolding withClock
-next-clock kit r a n =
+-- the invariant reads neither the clock nor the late tick
+pub next-tick : (kit : Kit) (r : Room) → Invariant kit r → (gap : ℕ) → Next kit r (tick kit r gap)
+unfolding tick withClock withLate
+next-tick kit r a gap =
     next-still kit 0 a (record {
-      grows = grows-withClock r n;
+      grows = tick-grows kit r gap;
       record-now = refl;
       ag-now = refl;
       up-now = refl;
@@ -145,47 +145,6 @@ next-clock kit r a n =
       histories-fit = λ w. w;
       submissions = λ w. w;
     })
-
-halted-list : (kit : Kit) (r : Room) (t : Option ℕ) (x : ℕ) → isRunning (r .replica x .condition) ≡ true
-    → settled kit (panicAll r t) x ≡ settled kit r x
-unfolding panicAll settled withCondition settledNoted settledCount
-halted-list kit r t x e = rw (e, running-open (r .replica x .condition) e, running-correct (r .replica x .condition) e)
-
-held-same : (r : Room) (t : Option ℕ) (o : Option ℕ) → heldList (panicAll r t) o ≡ heldList r o
-unfolding panicAll heldList
-held-same r t none = refl
-held-same r t (some h) = refl
-
-standing-list : (kit : Kit) (r : Room) (t : Option ℕ) (x : ℕ) → isRunning (r .replica x .condition) ≡ false
-    → settled kit (panicAll r t) x ≡ settled kit r x
-unfolding panicAll settled
-standing-list kit r t x e = rw (e, held-same r t (r .replica x .held))
-
-next-halt : (kit : Kit) (r : Room) → Invariant kit r → (t : Option ℕ) → Next kit r (panicAll r t)
-unfolding panicAll
-next-halt kit r a t =
-    record {
-      invariant = record {
-        part = λ x fx.
-            pick-elim (λ p. Part kit (panicAll r t) x p (r .counter x ag) (r .counter x up)) (isRunning (r .replica x .condition))
-            (λ e. part-grows kit (grows-panicAll r t) (halt-part kit x (r .replica x) (a .part x fx)))
-            (λ e. part-grows kit (grows-panicAll r t) (a .part x fx));
-        histories-fit = a .histories-fit;
-        submissions = a .submissions;
-        faulty-marked = λ x. pick-elim (λ (p : Replica). isFaulty (p .condition) ≡ isMarkedFaulty kit x) (isRunning (r .replica x .condition))
-            (λ e. halt-correct (r .replica x) ∙ sym (running-correct (r .replica x .condition) e) ∙ a .faulty-marked x) (λ e. a .faulty-marked x);
-      };
-      settled-grows = λ x fx. split (isRunning (r .replica x .condition)) (λ e. rw (halted-list kit r t x e) λ i q z. z)
-          (λ e. rw (standing-list kit r t x e) λ i q z. z);
-    }
-
-pub next-tick : (kit : Kit) (r : Room) → Invariant kit r → (gap : ℕ) → Next kit r (tick kit r gap)
-unfolding tick
-next-tick kit r a gap =
-    let n = next-clock kit r a (r .clock + gap) in
-    pick-elim (λ z. Next kit r z) (not (isSome (r .late)) && isSome
-    (overdue kit (withClock r (r .clock + gap)) (withClock r (r .clock + gap) .submitted) (withClock r (r .clock + gap) .ticks)))
-    (λ t. next-trans n (next-halt kit (withClock r (r .clock + gap)) (n .invariant) _)) (λ t. n)
 
 -- ---- one event
 

@@ -1,16 +1,15 @@
--- A refused event leaves exactly the ticked room: clock and lateness have moved, nothing else. Assumes nothing.
+-- A refused event leaves exactly the ticked room: clock and late tick have moved, nothing else. Assumes nothing.
 use mathlib.Core.Path.{_≡_, refl, sym, _∙_}
-use mathlib.Core.Bool.{Bool, true, false, not, _&&_}
+use mathlib.Core.Bool.{true}
 use mathlib.Core.Logic.{_≢_}
 use mathlib.Core.Option.{some}
 use Prim.Native.Nat.{ℕ, suc, _+_}
-use Rattle.terms.specs.Lists.{pick, nth, isSome}
-use Rattle.terms.specs.ListLaws.{pick-elim, and-l, not-was-true, no-way}
+use Rattle.terms.specs.Lists.{nth, isSome}
 use Rattle.terms.specs.Kit.{Kit, Entry}
 use Rattle.terms.specs.declared.Answer.{Answer}
 use Rattle.terms.specs.declared.Answer.the-variants.{Taken}
-use Rattle.rules.specs.Room.{Room, withClock}
-use Rattle.rules.specs.Clock.{tick, halt, overdue, panicAll}
+use Rattle.rules.specs.Room.{Room, withClock, withLate}
+use Rattle.rules.specs.Clock.{tick}
 use Rattle.rules.specs.Play.{step, after, answer}
 use Rattle.rules.specs.laws.Changes.{event-comes}
 use Rattle.rules.specs.Growth.{after-suc}
@@ -27,47 +26,35 @@ refused-after kit n e a h g d =
     let g₁ : some (step kit (after kit n) e .answer) ≡ some a = rw h at g in
     after-suc kit n e h ∙ refused-is-ticked kit (after kit n) e (λ t. d (let z : step kit (after kit n) e .answer ≡ a = cc in sym z ∙ t))
 
--- ---- what the tick leaves alone, and what it moves
+-- ---- what the tick moves, and what it leaves alone: every record, too
 
-pub record Ticked (kit : Kit) (r : Room) (gap : ℕ) (r₁ : Room) : Type 0 where
+pub record Ticked (r : Room) (gap : ℕ) (r₁ : Room) : Type 0 where
   pub clock : r₁ .clock ≡ r .clock + gap
+  -- what was late before stays so
+  pub late : isSome (r .late) ≡ true → r₁ .late ≡ r .late
+  -- all else stands
   pub submitted : r₁ .submitted ≡ r .submitted
   pub ticks : r₁ .ticks ≡ r .ticks
   pub histories : r₁ .histories ≡ r .histories
   pub filed : r₁ .filed ≡ r .filed
   pub counter : r₁ .counter ≡ r .counter
-  -- if nothing is late anew then every record is as it was, else every running replica has halted
-  pub replica : (x : ℕ) → r₁ .replica x ≡ pick (not (isSome (r .late)) && isSome (r₁ .late)) (halt (r .replica x)) (r .replica x)
-  -- what was late before stays so
-  pub late : isSome (r .late) ≡ true → r₁ .late ≡ r .late
+  pub replica : r₁ .replica ≡ r .replica
 
-never : (b : Bool) → (not b && b) ≡ false
-never true = refl
-never false = refl
-
-pub tick-ticked : (kit : Kit) (r : Room) (gap : ℕ) → Ticked kit r gap (tick kit r gap)
-unfolding tick withClock panicAll
+pub tick-ticked : (kit : Kit) (r : Room) (gap : ℕ) → Ticked r gap (tick kit r gap)
+unfolding tick withClock withLate
 tick-ticked kit r gap =
-    let later = withClock r (r .clock + gap) in
-    let late = overdue kit later (later .submitted) (later .ticks) in
-    pick-elim (Ticked kit r gap) (not (isSome (r .late)) && isSome late)
-    (λ t. record {
+    record {
       clock = refl;
+      late = λ s. rw s;
       submitted = refl;
       ticks = refl;
       histories = refl;
       filed = refl;
       counter = refl;
-      replica = λ x. rw t;
-      late = λ s. no-way (cc (s, not-was-true (isSome (r .late)) (and-l (not (isSome (r .late))) (isSome late) t)));
-    })
-    (λ t. record {
-      clock = refl;
-      submitted = refl;
-      ticks = refl;
-      histories = refl;
-      filed = refl;
-      counter = refl;
-      replica = λ x. rw (never (isSome (r .late)));
-      late = λ s. refl;
-    })
+      replica = refl;
+    }
+
+-- a refused event, at a moment of a play: nothing but clock and late tick
+pub refused-ticked
+    : (kit : Kit) (n : ℕ) (e : Entry) (a : Answer) → nth (kit .events) n ≡ some e → answer kit n ≡ some a → a ≢ Taken → Ticked (after kit n) (e .gap) (after kit (suc n))
+refused-ticked kit n e a h g d = rw (refused-after kit n e a h g d) (tick-ticked kit (after kit n) (e .gap))
