@@ -1,5 +1,5 @@
 -- What an event can do to the room that it is handed: nothing if it is refused; else a few changes, of which at most three issue a
--- certificate. Every law that goes over all kinds of event comes from `event-comes`. Assumes nothing.
+-- certificate. What refusals, certificates, clock and ticks obey comes from `event-comes`. Assumes nothing.
 use mathlib.Core.Path.{_≡_, refl}
 use mathlib.Core.Bool.{Bool, true, false}
 use mathlib.Core.Logic.{_≢_}
