@@ -2,6 +2,7 @@ pub mod Spelling
 pub mod Reader
 pub mod Writer
 pub mod SpellingLaws
+pub mod KitWords
 pub mod Cursor
 pub mod WriterLaws
 pub mod Theorems

@@ -2,14 +2,14 @@
 -- read. Assumes nothing.
 use mathlib.Core.Path.{_≡_, refl, sym, ap, _∙_}
 use mathlib.Core.List.{List, [], _∷_, _++_, append-assoc}
-use mathlib.Core.Logic.{by-cases}
+use mathlib.Core.Logic.{by-cases, ⊎-elim}
 use Prim.Native.Nat.{ℕ, zero, suc, _+_, _-_, _<_, _≤_, _^_}
 use native.Mathlib.Omega.{arith}
 use native.Mathlib.Decide.{decLt}
 use borrow.Author.Tests.{le-leb, lt-leb}
 use lib.ListN.{length, drop, length-append, length-drop, take-append-drop, drop-of-length-le}
 use lib.Seq.{drop-drop, drop-append-seam}
-use Rattle.terms.specs.ListLaws.{no-way, nth-append}
+use Rattle.terms.specs.ListLaws.{no-way, nth-append, nth-app-inv}
 use Rattle.number.specs.Number.{numberAt, spelling, Bytes}
 use Rattle.number.specs.NumberLaws.{spelling-reads-from, one-spelling, spelling-length, moves-on}
 use Rattle.number.specs.declared.Found.{Found}
@@ -30,7 +30,10 @@ words-right (x ∷ l) m w = words-right l m (λ i n h. w (suc i) n h)
 pub words-left : (l m : List ℕ) → Words (l ++ m) → Words l
 words-left l m w = λ i n h. w i n (nth-append l m i h)
 
-words-cons : (n : ℕ) (ns : List ℕ) → n < 2 ^ 32 → Words ns → Words (n ∷ ns)
+pub words-append : (l m : List ℕ) → Words l → Words m → Words (l ++ m)
+words-append l m v w = λ i n h. ⊎-elim (λ p. v i n p) (λ p. w (p .0) n (p .2)) (nth-app-inv l m i h)
+
+pub words-cons : (n : ℕ) (ns : List ℕ) → n < 2 ^ 32 → Words ns → Words (n ∷ ns)
 words-cons n ns small w zero m h = let z : n ≡ m = cc in rw (← z) small
 words-cons n ns small w (suc i) m h = w i m h
 

@@ -1,4 +1,5 @@
 pub mod Printed
 pub mod PrintedLaws
 pub mod Theorem
+pub mod Edits
 pub mod Demands

@@ -4,3 +4,4 @@ pub mod PlayLines
 pub mod PlayText
 pub mod PlayTextLaws
 pub mod Whole
+pub mod Without

@@ -5,7 +5,7 @@ use mathlib.Core.Bool.{true}
 use mathlib.Core.Logic.{_≢_}
 use mathlib.Core.Option.{some}
 use mathlib.Core.List.{List}
-use Prim.Native.Nat.{ℕ, suc, _≤_, _<_}
+use Prim.Native.Nat.{ℕ, suc, _+_, _≤_, _<_}
 use lib.ListN.{take}
 use Rattle.terms.specs.Lists.{nth}
 use Rattle.terms.specs.Kit.{Kit, Entry, GoodKit}
@@ -15,7 +15,8 @@ use Rattle.terms.specs.declared.Answer.{Answer}
 use Rattle.terms.specs.declared.Answer.the-variants.{Taken, CannotBuild}
 use Rattle.rules.specs.Reading.{answered}
 use Rattle.rules.specs.Clock.{tick}
-use Rattle.rules.specs.Play.{after, answer}
+use Rattle.rules.specs.Outcome.{taken}
+use Rattle.rules.specs.Play.{step, after, answer}
 use Rattle.rules.specs.Growth.{Grows, after-grows}
 use Rattle.rules.specs.Filings.{build-once}
 use Rattle.rules.specs.Rising.{countIn}
@@ -25,6 +26,8 @@ use Rattle.rules.specs.laws.Time.{gaps, clock-is-sum, late-stays, Timed,
 use Rattle.rules.specs.laws.Answered.{answered-after}
 use Rattle.rules.specs.laws.Halting.{TakenPanic, halts-by-panic}
 use Rattle.rules.specs.laws.Patience.{withPatience, ButLate, patience-room, patience-answer}
+use Rattle.rules.specs.laws.Idle.{idle, idle-joined-after, idle-none}
+use Rattle.rules.specs.laws.IdleEdits.{OneIdleLess, PlaysWithout, plays-without}
 use Rattle.rules.specs.agreement.Bounds.{Bounds, bounds, settles-one}
 
 pub record FirstLaws (kit : Kit) : Type 0 where
@@ -51,6 +54,12 @@ pub record FirstLaws (kit : Kit) : Type 0 where
   pub late : (t m n : ℕ) → m ≤ n → after kit m .late ≡ some t → after kit n .late ≡ some t
   -- ticks never fall along the submissions, and none is past the clock
   pub ticks : (n : ℕ) → Timed (after kit n)
+  -- an idle of a ticks and then one of b leave the room, and have the answer, of one of a+b
+  pub idles : (n a b : ℕ) → step kit (step kit (after kit n) (idle a) .room) (idle b) ≡ step kit (after kit n) (idle (a + b))
+  -- an idle of 0 is taken and changes nothing
+  pub idle-of-none : 1 ≤ kit .patience → (n : ℕ) → step kit (after kit n) (idle 0) ≡ taken (after kit n)
+  -- with one idle less at place n, a kit plays as it did without event n
+  pub idle-less : (n : ℕ) (kit₁ : Kit) → 1 ≤ kit .patience → OneIdleLess n kit kit₁ → PlaysWithout n kit kit₁
   -- an answered request stays answered
   pub answers : (m n : ℕ) → m ≤ n → (request : ℕ) → answered kit (after kit m) request ≡ true → answered kit (after kit n) request ≡ true
   -- event 7 is taken at most once
@@ -77,6 +86,9 @@ first-laws kit =
       clock = clock-is-sum kit;
       late = late-stays kit;
       ticks = timed kit;
+      idles = idle-joined-after kit;
+      idle-of-none = idle-none kit;
+      idle-less = λ n kit₁ low i. plays-without low i;
       answers = answered-after kit;
       built-once = build-once kit;
     }

@@ -13,3 +13,7 @@ pub mod Halting
 pub mod Settings
 pub mod LateAside
 pub mod Patience
+pub mod Idle
+pub mod Instead
+pub mod IdleEdits
+pub mod IdleRows

@@ -71,13 +71,17 @@ late-stays kit t m n l =
 
 -- ---- the ticks
 
+-- none is below an earlier one
+abbrev pub NeverFall : List ℕ → Type 0
+NeverFall ticks = (i j t u : ℕ) → i ≤ j → nth ticks i ≡ some t → nth ticks j ≡ some u → t ≤ u
+
 pub record Timed (r : Room) : Type 0 where
   -- each submission has its tick
   pub paired : length (r .ticks) ≡ length (r .submitted)
   -- none is past the clock
   pub past : (i t : ℕ) → nth (r .ticks) i ≡ some t → t ≤ r .clock
   -- none is below an earlier one
-  pub rising : (i j t u : ℕ) → i ≤ j → nth (r .ticks) i ≡ some t → nth (r .ticks) j ≡ some u → t ≤ u
+  pub rising : NeverFall (r .ticks)
 
 timed-remember : (r : Room) (request : ℕ) → Timed r → Timed (remember r request)
 unfolding remember

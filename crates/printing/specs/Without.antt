@@ -1,0 +1,113 @@
+-- The printed play of a kit without one of its events: that event's line is gone, and the later events are numbered one lower. So is printed the
+-- kit with one idle less. Assumes nothing.
+use mathlib.Core.Path.{_≡_, refl, sym, ap, _∙_}
+use mathlib.Core.List.{List, _++_, append-assoc}
+use Prim.Native.Nat.{ℕ, zero, suc, _+_, _-_, _≤_, _<_}
+use native.Mathlib.Omega.{arith}
+use lib.ListN.{length}
+use Rattle.terms.specs.Lists.{isSome}
+use Rattle.terms.specs.Kit.{Kit, Entry}
+use Rattle.rules.specs.Table.{isActive, actives}
+use Rattle.rules.specs.Room.{Room}
+use Rattle.rules.specs.Reading.{settledCount, settledNoted, settled}
+use Rattle.rules.specs.Play.{after, answer}
+use Rattle.rules.specs.laws.Settings.{sameTable}
+use Rattle.rules.specs.laws.Instead.{withEvents}
+use Rattle.rules.specs.laws.IdleEdits.{OneIdleLess, PlaysWithout, plays-without, OneEventLess, one-event-less}
+use Rattle.replica.specs.RecordLayout.{numberOr0}
+use Rattle.printing.specs.Lines.{eventLine, lateText, linesFrom}
+use Rattle.printing.specs.LinesLaws.{lines-ext}
+use Rattle.printing.specs.PlayText.{numberSaid, eventSaid, replicaSaid, textAfter, playText}
+
+-- the line of event k with a number that is one lower
+unfoldable pub lowered : Kit → ℕ → List ℕ
+lowered kit k = eventLine k (after kit (suc k) .clock) (numberSaid (answer kit k))
+
+-- the lines of the replicas and of the late tick
+unfoldable pub roomSaid : Kit → Room → List ℕ
+roomSaid kit r = linesFrom 0 (length (kit .table)) (replicaSaid kit r) ++ lateText (isSome (r .late)) (numberOr0 (r .late))
+
+-- in the end
+abbrev pub endSaid : Kit → List ℕ
+endSaid kit = roomSaid kit (after kit (length (kit .events)))
+
+-- the printed play, with the line of event n apart
+unfoldable pub textWith : ℕ → Kit → List ℕ
+textWith n kit =
+    linesFrom 0 n (eventSaid kit) ++ (eventSaid kit n ++ (linesFrom (suc n) (length (kit .events) - suc n) (eventSaid kit) ++ endSaid kit))
+
+-- the printed play without it
+unfoldable pub textWithout : ℕ → Kit → List ℕ
+textWithout n kit = linesFrom 0 n (eventSaid kit) ++ (linesFrom (suc n) (length (kit .events) - suc n) (lowered kit) ++ endSaid kit)
+
+-- ---- lines in two parts
+
+lines-append : (a b i : ℕ) (line : ℕ → List ℕ) → linesFrom i (a + b) line ≡ linesFrom i a line ++ linesFrom (i + a) b line
+unfolding linesFrom
+lines-append zero b i line = let here : i + 0 ≡ i = omega arith in let few : 0 + b ≡ b = omega arith in rw (here, few)
+lines-append (suc a) b i line =
+    let many : suc a + b ≡ suc (a + b) = omega arith in
+    let there : i + suc a ≡ suc i + a = omega arith in
+    rw (many, there, lines-append a b (suc i) line) (sym (append-assoc (line i) (linesFrom (suc i) a line) (linesFrom (suc i + a) b line)))
+
+-- the first n of more lines, and the others behind them
+lines-at : (n count : ℕ) (line : ℕ → List ℕ) → n ≤ count → linesFrom 0 count line ≡ linesFrom 0 n line ++ linesFrom n (count - n) line
+lines-at n count line l =
+    let sum : count ≡ n + (count - n) = omega arith in
+    let there : 0 + n ≡ n = omega arith in
+    ap (λ (m : ℕ). linesFrom 0 m line) sum ∙ lines-append n (count - n) 0 line ∙ ap (λ (m : ℕ). linesFrom 0 n line ++ linesFrom m (count - n) line) there
+
+-- the same lines, from a number on that is one higher
+lines-higher : (m i : ℕ) (f g : ℕ → List ℕ) → ((k : ℕ) → i ≤ k → f k ≡ g (suc k)) → linesFrom i m f ≡ linesFrom (suc i) m g
+unfolding linesFrom
+lines-higher zero i f g e = refl
+lines-higher (suc m) i f g e = rw (e i (omega arith), lines-higher m (suc i) f g (λ k h. e k (omega arith)))
+
+-- ---- the printed play in two parts
+
+text-at
+    : (kit : Kit) (n : ℕ) → n ≤ length (kit .events)
+    → playText kit ≡ linesFrom 0 n (eventSaid kit) ++ (linesFrom n (length (kit .events) - n) (eventSaid kit) ++ endSaid kit)
+unfolding playText textAfter roomSaid
+text-at kit n l = rw (lines-at n (length (kit .events)) (eventSaid kit) l) (append-assoc (linesFrom 0 n (eventSaid kit)) _ _)
+
+pub text-with : (kit : Kit) (n : ℕ) → n < length (kit .events) → playText kit ≡ textWith n kit
+unfolding textWith linesFrom
+text-with kit n l =
+    let many : length (kit .events) - n ≡ suc (length (kit .events) - suc n) = omega arith in
+    text-at kit n (omega arith)
+    ∙ ap (λ (m : ℕ). linesFrom 0 n (eventSaid kit) ++ (linesFrom n m (eventSaid kit) ++ endSaid kit)) many
+    ∙ ap (λ (z : List ℕ). linesFrom 0 n (eventSaid kit) ++ z) (append-assoc (eventSaid kit n) _ _)
+
+-- ---- the kit with one idle less
+
+-- what is said of a room goes by the settings
+room-same : (kit : Kit) (events : List Entry) (r : Room) → roomSaid (withEvents kit events) r ≡ roomSaid kit r
+unfolding withEvents sameTable roomSaid replicaSaid settled settledNoted settledCount isActive actives
+room-same kit events r = refl
+
+module _ {n : ℕ} {kit kit₁ : Kit} (p : PlaysWithout n kit kit₁) (o : OneEventLess n kit kit₁) where
+  said-before : (k : ℕ) → k < n → eventSaid kit₁ k ≡ eventSaid kit k
+  unfolding eventSaid
+  said-before k l = rw (p .room-before (suc k) (omega arith), p .answer-before k l)
+
+  said-later : (k : ℕ) → n ≤ k → eventSaid kit₁ k ≡ lowered kit (suc k)
+  unfolding eventSaid lowered
+  said-later k l = rw (p .room-later (suc k) (omega arith), p .answer-later k l)
+
+  end-said : endSaid kit₁ ≡ endSaid kit
+  end-said =
+      ap (λ (k : Kit). roomSaid k (after kit₁ (length (kit₁ .events)))) (o .settings)
+      ∙ room-same kit (kit₁ .events) (after kit₁ (length (kit₁ .events)))
+      ∙ ap (roomSaid kit) (p .room-last)
+
+  text-lowered : playText kit₁ ≡ textWithout n kit
+  unfolding textWithout
+  text-lowered =
+      let many : length (kit .events) - suc n ≡ length (kit₁ .events) - n = omega (arith, o .count) in
+      let before = lines-ext n 0 (eventSaid kit₁) (eventSaid kit) (λ k h. said-before k (omega arith)) in
+      let later = lines-higher (length (kit₁ .events) - n) n (eventSaid kit₁) (lowered kit) said-later in
+      text-at kit₁ n (omega (arith, o .count, o .place)) ∙ rw (many, before, later, end-said)
+
+pub text-without : {n : ℕ} {kit kit₁ : Kit} → 1 ≤ kit .patience → OneIdleLess n kit kit₁ → playText kit₁ ≡ textWithout n kit
+text-without low i = text-lowered (plays-without low i) (one-event-less i)

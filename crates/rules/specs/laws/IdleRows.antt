@@ -1,0 +1,116 @@
+-- Idle time, by computation: five ways to spend twelve ticks; an edit of a kit; and two rooms that no kit reaches, where the laws of Idle do not
+-- hold: one whose ticks fall, one where somebody is overdue and no late tick is known. Assumes nothing.
+use mathlib.Core.Path.{_≡_, refl}
+use mathlib.Core.Option.{Option, none, some}
+use mathlib.Core.List.{List, [], _∷_, _++_, map}
+use Prim.Native.Nat.{ℕ, _+_}
+use native.Mathlib.Omega.{arith}
+use lib.ListN.{length}
+use Rattle.terms.specs.Kit.{Kit}
+use Rattle.terms.specs.declared.Event.the-variants.{Submit, Deliver}
+use Rattle.rules.specs.Table.{ag}
+use Rattle.rules.specs.Room.{Room, freshRoom}
+use Rattle.rules.specs.Play.{play, after}
+use Rattle.rules.specs.Computing.{computing}
+use Rattle.rules.specs.PaperTable.{at, kitOf}
+use Rattle.rules.specs.EasyToGetWrong.{answers}
+use Rattle.rules.specs.laws.Time.{NeverFall}
+use Rattle.rules.specs.laws.Settings.{sameTable}
+use Rattle.rules.specs.laws.Idle.{idle}
+use Rattle.rules.specs.laws.Instead.{withEvents, replace}
+
+-- ---- a kit of patience 10
+
+-- request 7 is submitted at tick 1 and request 5 at tick 3; idles of these gaps come; 5 is submitted again, and PREPARE of 7 is delivered
+abbrev pub pauses : List ℕ → Kit
+pauses gaps =
+    kitOf 1 (1 ∷ 1 ∷ 0 ∷ [])
+    (at 1 (Submit 7) ∷ at 2 (Submit 5) ∷ (map idle gaps ++ (at 0 (Submit 5) ∷ at 0 (Deliver 0 ag 1 1) ∷ [])))
+
+-- clock and late tick after the idles
+abbrev pub afterIdles : List ℕ → ℕ × Option ℕ
+afterIdles gaps = let r = after (pauses gaps) (2 + length gaps) in (r .clock, r .late)
+
+-- ---- rooms that no kit reaches, at a patience of 5
+
+abbrev pub five : Kit
+five = record { f = 1; leader = 0; patience = 5; table = 1 ∷ 1 ∷ 0 ∷ []; events = [] }
+
+-- these requests were submitted at these ticks; nothing else has happened, and no late tick is known
+abbrev pub waiting : ℕ → List ℕ → List ℕ → Room
+waiting clock requests ticks =
+    let r = freshRoom five in
+    record {
+      clock = clock;
+      late = none;
+      submitted = requests;
+      ticks = ticks;
+      histories = r .histories;
+      filed = r .filed;
+      counter = r .counter;
+      replica = r .replica;
+    }
+
+-- the ticks fall
+abbrev pub fallen : Room
+fallen = waiting 0 (7 ∷ 5 ∷ []) (10 ∷ 0 ∷ [])
+
+-- request 7 has waited 20 ticks
+abbrev pub unknown : Room
+unknown = waiting 20 (7 ∷ []) (0 ∷ [])
+
+-- the room after some idles
+abbrev pub idled : Room → List ℕ → Room
+idled r gaps = play five r (map idle gaps)
+
+-- ---- the rows
+
+pub record IdleRows : Type 0 where
+  -- twelve ticks in one idle, in two, with one of 0 before them, cut just before the patience is over, at it, and in three
+  pub one : afterIdles (12 ∷ []) ≡ (15, some 11)
+  pub halves : afterIdles (6 ∷ 6 ∷ []) ≡ (15, some 11)
+  pub cut-at-nine : afterIdles (9 ∷ 3 ∷ []) ≡ (15, some 11)
+  pub cut-at-ten : afterIdles (10 ∷ 2 ∷ []) ≡ (15, some 11)
+  pub none-first : afterIdles (0 ∷ 12 ∷ []) ≡ (15, some 11)
+  pub in-three : afterIdles (4 ∷ 0 ∷ 8 ∷ []) ≡ (15, some 11)
+  -- one tick before the patience is over an idle of 0 makes nobody late, and one of 1 does
+  pub none-early : afterIdles (7 ∷ 0 ∷ []) ≡ (10, none)
+  pub one-more : afterIdles (7 ∷ 0 ∷ 1 ∷ []) ≡ (11, some 11)
+  -- the answers behind them are the same, numbered one higher
+  pub answers-one : answers (pauses (12 ∷ [])) 5 ≡ 0 ∷ 0 ∷ 0 ∷ 11 ∷ 0 ∷ []
+  pub answers-two : answers (pauses (6 ∷ 6 ∷ [])) 6 ≡ 0 ∷ 0 ∷ 0 ∷ 0 ∷ 11 ∷ 0 ∷ []
+  -- the four edits at place 2
+  pub joining : replace 2 2 (idle 12 ∷ []) (pauses (6 ∷ 6 ∷ [])) ≡ pauses (12 ∷ [])
+  pub cutting : replace 2 1 (idle 6 ∷ idle 6 ∷ []) (pauses (12 ∷ [])) ≡ pauses (6 ∷ 6 ∷ [])
+  pub putting-in : replace 2 0 (idle 0 ∷ []) (pauses (12 ∷ [])) ≡ pauses (0 ∷ 12 ∷ [])
+  pub taking-out : replace 2 1 [] (pauses (0 ∷ 12 ∷ [])) ≡ pauses (12 ∷ [])
+  -- where ticks fall two idles are not one
+  pub falls : NeverFall (fallen .ticks) → ⊥
+  pub fallen-cut : idled fallen (5 ∷ 10 ∷ []) .late ≡ some 5
+  pub fallen-whole : idled fallen (15 ∷ []) .late ≡ some 15
+  -- where somebody is overdue and it is not known, an idle of 0 finds it
+  pub overdue-unknown : (unknown .late ≡ none) × (idled unknown (0 ∷ []) .late ≡ some 5)
+
+pub idle-rows : IdleRows
+unfolding computing withEvents sameTable replace
+idle-rows =
+    record {
+      one = refl;
+      halves = refl;
+      cut-at-nine = refl;
+      cut-at-ten = refl;
+      none-first = refl;
+      in-three = refl;
+      none-early = refl;
+      one-more = refl;
+      answers-one = refl;
+      answers-two = refl;
+      joining = refl;
+      cutting = refl;
+      putting-in = refl;
+      taking-out = refl;
+      falls = λ never. absurd (omega (arith, never 0 1 10 0 (omega arith) refl refl));
+      fallen-cut = refl;
+      fallen-whole = refl;
+      overdue-unknown = (refl, refl);
+    }
