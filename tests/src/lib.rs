@@ -3,6 +3,7 @@
 pub mod agreement;
 pub mod cases;
 pub mod generator;
+pub mod idle;
 pub mod kit;
 pub mod lent;
 #[cfg(feature = "library")]

@@ -2,6 +2,7 @@
 
 use crate::agreement::Agreement;
 use crate::cases::{after_the_late_tick, clock, limits, refused, taken, Before, CASES};
+use crate::idle;
 use crate::kit::{self, Kit};
 use crate::play::{Condition, Room};
 use std::collections::BTreeMap;
@@ -15,6 +16,7 @@ const CONDITIONS: [Condition; 4] = [Condition::Running, Condition::Halted, Condi
 pub struct Tally {
     pub kits: u64,
     pub events: u64,
+    pub edits: u64,
     kit_numbers: [u64; 10],
     answers: [u64; 25],
     conditions: [u64; 4],
@@ -66,23 +68,29 @@ impl Tally {
         verdict
     }
 
+    /// Counts an edit of idle time. Gives the first thing in which the two kits differ though they should not, if there is one.
+    pub fn edited(&mut self, pair: &idle::Pair) -> Result<(), String> {
+        self.edits += 1;
+        idle::check(pair, &mut |case| *self.cases.entry(case).or_insert(0) += 1)
+    }
+
     fn rows(&self) -> Vec<(String, u64)> {
         let kits = KIT_NUMBERS.iter().map(|&n| (format!("kit {n}"), self.kit_numbers[n]));
         let answers = ANSWERS.iter().map(|&n| (format!("answer {n}"), self.answers[n]));
         let conditions = CONDITIONS.iter().map(|&c| (format!("condition {c:?}").to_lowercase(), self.conditions[c as usize]));
-        let cases = CASES.iter().map(|&c| (c.to_string(), self.cases.get(c).copied().unwrap_or(0)));
+        let cases = CASES.iter().chain(idle::CASES).map(|&c| (c.to_string(), self.cases.get(c).copied().unwrap_or(0)));
         kits.chain(answers).chain(conditions).chain(cases).collect()
     }
 
     /// What was never met.
     pub fn missing(&self) -> Vec<String> {
-        assert!(self.cases.keys().all(|c| CASES.contains(c)), "a case that CASES does not list");
+        assert!(self.cases.keys().all(|c| CASES.contains(c) || idle::CASES.contains(c)), "a case that is not listed");
         self.rows().into_iter().filter(|row| row.1 == 0).map(|row| row.0).collect()
     }
 
     pub fn report(&self) -> String {
         let mut out = String::new();
-        writeln!(out, "{} kits, {} events", self.kits, self.events).unwrap();
+        writeln!(out, "{} kits, {} events, {} edits of idle time", self.kits, self.events, self.edits).unwrap();
         for (name, count) in self.rows() {
             writeln!(out, "{count:>10}  {name}").unwrap();
         }

@@ -1,8 +1,9 @@
 //! The lesson kits: each is what its text says, prints what stands beside it, and teaches what its page says.
 
-use model::kit::{bytes, read, Action, Kit};
+use model::idle::without_line;
+use model::kit::{bytes, read, Action, Event, Kit};
 use model::play::Room;
-use model::print::kitplay;
+use model::print::{kitplay, play_of};
 use model::text_form;
 use std::fs;
 use std::path::PathBuf;
@@ -80,4 +81,17 @@ fn the_wrong_number() {
     assert_eq!(bytes(&dropped), bytes(&old));
     assert_eq!(least_patience(clean), 12);
     assert_eq!(least_patience(old), 6);
+}
+
+/// However the pause in `late` is cut, the page's kit is that play without a line.
+#[test]
+fn a_pause_may_be_cut() {
+    let late = kit("late");
+    assert_eq!(late.events[2], Event { gap: 6, action: Action::Idle });
+    for part in 0..=6 {
+        let mut cut = late.clone();
+        cut.events[2].gap = part;
+        cut.events.insert(3, Event { gap: 6 - part, action: Action::Idle });
+        assert_eq!(without_line(&play_of(&cut), cut.events.len(), 2), text("late", "play"));
+    }
 }

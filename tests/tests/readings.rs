@@ -1,11 +1,12 @@
 //! How document 01 is read where it can be read in two ways, point by point as docs/DECISIONS.md numbers them.
 
 mod common;
-use common::{after, answers, last, number, FIVE, THREE};
+use common::{after, answers, kit, last, number, FIVE, THREE};
 use model::generator::protocol;
+use model::idle::{check, edits, without_line};
 use model::kit::{of_numbers, Action, Content, Kit, TICKS};
 use model::play::{Condition, Room};
-use model::print::kitplay;
+use model::print::{kitplay, play_of};
 use model::random::Random;
 
 /// f = 1 with the leader, the switch leader or the passive replica faulty.
@@ -15,6 +16,9 @@ const PASSIVE: &str = "f 1\nleader 0\npatience 10\nreplicas 1 1 2\n";
 
 /// A request, noted and settled by the switch leader.
 const ONE: &str = "0 1 7 / 0 3 0 0 1 1";
+
+/// The end of a play in which nothing is settled and request 7, submitted at tick 0, got late.
+const END: &str = "replica 0 running 0 0\nreplica 1 running 0 0\nreplica 2 running 0 0\nlate 10\n";
 
 #[test]
 fn r1_the_first_fault_from_the_left() {
@@ -218,6 +222,33 @@ fn l3_the_patience_decides_the_late_tick_alone() {
                 let halts = p.condition == Condition::Halted && was[x] != Condition::Halted;
                 assert_eq!(halts, answer == 0 && event.action == Action::Panic(x));
             }
+        }
+    }
+}
+
+/// Twelve ticks, however they are cut: the same clock, the same late tick, and the same room.
+#[test]
+fn l9_idle_time_is_cut_and_joined() {
+    for pauses in ["12 6", "6 6 / 6 6", "9 6 / 3 6", "10 6 / 2 6", "8 6 / 4 6", "0 6 / 12 6", "4 6 / 0 6 / 8 6"] {
+        after(THREE, &format!("1 1 7 / 2 1 5 / {pauses}"), |room| assert_eq!((room.clock, room.late), (15, Some(11))));
+    }
+    // a tick before the patience is over, an idle of 0 makes nobody late
+    after(THREE, "1 1 7 / 9 6 / 0 6", |room| assert_eq!((room.clock, room.late), (10, None)));
+    // the line of the first of two idles is gone, and what comes behind is numbered one lower
+    let text = |pauses: &str| play_of(&kit(THREE, &format!("0 1 7 / {pauses} / 0 1 7")));
+    assert_eq!(text("6 6 / 6 6"), "1 0 0\n2 6 0\n3 12 0\n4 12 11\n".to_string() + END);
+    assert_eq!(text("12 6"), "1 0 0\n2 12 0\n3 12 11\n".to_string() + END);
+    assert_eq!(without_line(&text("6 6 / 6 6"), 4, 1), text("12 6"));
+}
+
+/// The four edits, on kits that know the protocol: every room, every answer and the printed play.
+#[test]
+fn l9_edited_kits_play_the_same() {
+    for seed in 0..200 {
+        let mut random = Random::new(seed);
+        let kit = protocol::kit(&mut random);
+        for pair in edits(&kit, &mut random) {
+            assert_eq!(check(&pair, &mut |_| ()), Ok(()), "{} at place {} of kit {seed}", pair.edit, pair.at);
         }
     }
 }

@@ -1,11 +1,13 @@
 //! compare N [SEED]: so many kits, each played by the model and by what is held against it, byte for byte.
 //!
 //! Held against the model: the programs that KITPLAY and KITROOM name (or --kitplay PATH, --kitroom PATH), on every M-th kit
-//! (--every M), and, built with the feature `library`, the library. Every kit is also checked for demand 3 at every moment.
+//! (--every M), and, built with the feature `library`, the library. Every kit is also checked for demand 3 at every moment, and, with its idle
+//! time cut, joined, and an idle of 0 put in and taken out, for what L9 says of the two kits; one of these is then played like the others.
 //! --from NUMBER starts at that kit. A kit on which two differ is made as short as it can be and put into target/differences.
 //! The report counts what was met; a run that did not meet everything fails.
 
 use model::generator;
+use model::idle;
 use model::kit::{self, Kit};
 use model::print::{self, kitplay, kitroom, INPUT};
 use model::programs::Programs;
@@ -56,7 +58,7 @@ fn main() -> ExitCode {
         }
     };
     let fixed = if options.from == 0 { generator::fixed() } else { Vec::new() };
-    let mut run = Run { options, tally: Tally::default(), differences: 0, breaches: 0 };
+    let mut run = Run { options, tally: Tally::default(), differences: 0, breaches: 0, strays: 0 };
     for (i, bytes) in fixed.iter().enumerate() {
         run.take(format!("fixed-{i}"), bytes, i as u64);
     }
@@ -64,6 +66,7 @@ fn main() -> ExitCode {
         let (seed, bytes) = (run.options.seed, generator::kit_bytes(run.options.seed, number));
         run.count(&format!("{seed}-{number}"), &bytes);
         run.take(format!("{seed}-{number}"), &bytes, number);
+        run.edit(format!("{seed}-{number}"), &bytes, number);
     }
     run.verdict(fixed.len())
 }
@@ -73,6 +76,7 @@ struct Run {
     tally: Tally,
     differences: usize,
     breaches: usize,
+    strays: usize,
 }
 
 impl Run {
@@ -98,6 +102,22 @@ impl Run {
         }
     }
 
+    /// Edits the kit's idle time: the kit that is made is to play as this one does, but for one event. One such kit is then taken as the others are.
+    fn edit(&mut self, name: String, bytes: &[u8], number: u64) {
+        let Ok(kit) = kit::read(bytes) else { return };
+        let mut random = Random::new(number);
+        let pairs = idle::edits(&kit, &mut random);
+        for pair in &pairs {
+            if let Err(what) = self.tally.edited(pair) {
+                self.strays += 1;
+                println!("kit {name}, {} at place {}: {what}", pair.edit, pair.at);
+            }
+        }
+        let made: Vec<Vec<u8>> =
+            pairs.iter().map(|pair| kit::bytes(if pair.longer_is_new { &pair.kit } else { &pair.less })).collect();
+        self.take(format!("{name}-edited"), &made[random.below(made.len())], number);
+    }
+
     fn verdict(&self, fixed: usize) -> ExitCode {
         print!("{}", self.tally.report());
         let missing = if self.options.from == 0 { self.tally.missing() } else { Vec::new() };
@@ -105,14 +125,15 @@ impl Run {
             println!("never met: {what}");
         }
         println!(
-            "{fixed} fixed kits and {} others of seed {}: {} differences, {} breaches of demand 3, {} cases not met",
+            "{fixed} fixed kits and {} others of seed {}: {} differences, {} breaches of demand 3, {} of L9, {} cases not met",
             self.tally.kits,
             self.options.seed,
             self.differences,
             self.breaches,
+            self.strays,
             missing.len()
         );
-        if self.differences + self.breaches + missing.len() == 0 {
+        if self.differences + self.breaches + self.strays + missing.len() == 0 {
             ExitCode::SUCCESS
         } else {
             ExitCode::FAILURE

@@ -1,0 +1,246 @@
+//! What an editor may do to the idle time of a kit (document 02, L9): make two neighbouring idles one, cut one in two, take out an idle of 0 or
+//! put one in. Of the two kits one has an event less; but for that event they play and print the same.
+
+use crate::kit::{self, Action, Event, Kit, EVENTS, TICKS};
+use crate::play::Room;
+use crate::print::play_of;
+use crate::random::Random;
+
+/// Every case that a run has to meet.
+pub const CASES: &[&str] = &[
+    "idles: two made one",
+    "idles: one cut in two",
+    "idles: 0 taken out",
+    "idles: 0 put in",
+    "idles: cut so that a part is 0",
+    "idles: late in the first part of two",
+    "idles: late in the second part of two",
+    "idles: late at the very cut",
+    "idles: late before",
+    "idles: never late",
+    "idles: 0 before the first event",
+    "idles: 0 behind the last event",
+    "idles: 0 one tick before somebody is late",
+    "idles: a refused event behind",
+    "idles: an event too many",
+];
+
+/// A kit and the same kit with one idle less: event `at` of the first, counted from 0, is not in the second.
+pub struct Pair {
+    pub kit: Kit,
+    pub less: Kit,
+    pub at: usize,
+    /// What was done, one of `CASES`.
+    pub edit: &'static str,
+    /// Whether it is the longer kit that was made.
+    pub longer_is_new: bool,
+}
+
+fn idle(gap: u32) -> Event {
+    Event { gap, action: Action::Idle }
+}
+
+/// The kit with so many events from a place on replaced by these.
+fn replaced(kit: &Kit, at: usize, many: usize, new: &[Event]) -> Kit {
+    let mut other = kit.clone();
+    other.events.splice(at..at + many, new.iter().cloned());
+    other
+}
+
+// ---- the four edits
+
+/// Two idles, at a place and behind it, made one.
+fn join(kit: &Kit, at: usize) -> Option<Pair> {
+    let [a, b] = kit.events.get(at..at + 2)? else { return None };
+    let sum = a.gap + b.gap;
+    if a.action != Action::Idle || b.action != Action::Idle || sum > TICKS {
+        return None;
+    }
+    let less = replaced(kit, at, 2, &[idle(sum)]);
+    Some(Pair { kit: kit.clone(), less, at, edit: "idles: two made one", longer_is_new: false })
+}
+
+/// The idle at a place cut in two, the first part having so many ticks.
+fn cut(kit: &Kit, at: usize, part: u32) -> Pair {
+    let longer = replaced(kit, at, 1, &[idle(part), idle(kit.events[at].gap - part)]);
+    Pair { kit: longer, less: kit.clone(), at, edit: "idles: one cut in two", longer_is_new: true }
+}
+
+/// The idle of 0 at a place taken out.
+fn take_out(kit: &Kit, at: usize) -> Pair {
+    let less = replaced(kit, at, 1, &[]);
+    Pair { kit: kit.clone(), less, at, edit: "idles: 0 taken out", longer_is_new: false }
+}
+
+/// An idle of 0 put in at a place.
+fn put_in(kit: &Kit, at: usize) -> Pair {
+    let longer = replaced(kit, at, 0, &[idle(0)]);
+    Pair { kit: longer, less: kit.clone(), at, edit: "idles: 0 put in", longer_is_new: true }
+}
+
+/// Some edits of a kit, of each sort one if there is a place for it; of cuts two, and one more where somebody gets late in an idle.
+pub fn edits(kit: &Kit, random: &mut Random) -> Vec<Pair> {
+    let places = |good: &dyn Fn(usize) -> bool| (0..kit.events.len()).filter(|&at| good(at)).collect::<Vec<usize>>();
+    let is_idle = |at: usize| kit.events[at].action == Action::Idle;
+    let some = |places: Vec<usize>, random: &mut Random| (!places.is_empty()).then(|| random.pick(&places));
+    let mut all = vec![put_in(kit, random.below(kit.events.len() + 1))];
+    let cuts = [places(&is_idle), places(&is_idle), late_at(kit).filter(|&at| is_idle(at)).into_iter().collect()];
+    for place in cuts {
+        all.extend(some(place, random).map(|at| cut(kit, at, cut_point(kit, at, random))));
+    }
+    all.extend(some(places(&|at| join(kit, at).is_some()), random).and_then(|at| join(kit, at)));
+    all.extend(some(places(&|at| kit.events[at] == idle(0)), random).map(|at| take_out(kit, at)));
+    if let Some(at) = place_one_tick_before(kit) {
+        all.push(put_in(kit, at));
+    }
+    all
+}
+
+/// The event that makes somebody late.
+fn late_at(kit: &Kit) -> Option<usize> {
+    let mut room = Room::new(kit);
+    kit.events.iter().position(|event| {
+        room.step(event);
+        room.late.is_some()
+    })
+}
+
+/// How many ticks the first part has: any number of them, none, all, or so many that somebody is late just then, or a tick sooner or later.
+fn cut_point(kit: &Kit, at: usize, random: &mut Random) -> u32 {
+    let gap = kit.events[at].gap;
+    let room = after(kit, at);
+    let due =
+        room.submitted.iter().find(|&&(request, _)| !room.is_answered(request)).map(|&(_, tick)| tick + u64::from(kit.patience));
+    let until = due.and_then(|due| u32::try_from(due.saturating_sub(room.clock)).ok()).unwrap_or(gap);
+    let any = random.below(gap as usize + 1) as u32;
+    random.pick(&[0, gap, any, until, until.saturating_add(1), until.saturating_sub(1)]).min(gap)
+}
+
+/// Nobody is late, and the patience of somebody who is not answered is over at the next tick.
+fn is_nearly_late(room: &Room) -> bool {
+    let due = |tick: u64| tick + u64::from(room.kit.patience) == room.clock + 1;
+    room.late.is_none() && room.submitted.iter().any(|&(request, tick)| due(tick) && !room.is_answered(request))
+}
+
+/// The first place where somebody is nearly late.
+fn place_one_tick_before(kit: &Kit) -> Option<usize> {
+    let mut room = Room::new(kit);
+    for (i, event) in kit.events.iter().enumerate() {
+        room.step(event);
+        if is_nearly_late(&room) {
+            return Some(i + 1);
+        }
+    }
+    None
+}
+
+/// The room after the first n events.
+fn after(kit: &Kit, n: usize) -> Room<'_> {
+    let mut room = Room::new(kit);
+    for event in &kit.events[..n] {
+        room.step(event);
+    }
+    room
+}
+
+// ---- what is the same
+
+fn same_room(a: &Room, b: &Room) -> bool {
+    (a.clock, a.late, &a.submitted, &a.histories) == (b.clock, b.late, &b.submitted, &b.histories)
+        && (a.filed, &a.counters, &a.replicas) == (b.filed, &b.counters, &b.replicas)
+}
+
+/// The first thing in which the two kits differ though they should not. Tells the cases that it met.
+pub fn check(pair: &Pair, meet: &mut dyn FnMut(&'static str)) -> Result<(), String> {
+    meet(pair.edit);
+    if !both_good(pair, meet)? {
+        return Ok(());
+    }
+    rooms(pair, meet)?;
+    if play_of(&pair.less) == without_line(&play_of(&pair.kit), pair.kit.events.len(), pair.at) {
+        Ok(())
+    } else {
+        Err("the printed plays".to_string())
+    }
+}
+
+/// Both are kits or neither is, but for the count of events.
+fn both_good(pair: &Pair, meet: &mut dyn FnMut(&'static str)) -> Result<bool, String> {
+    let number = |kit: &Kit| kit::read(&kit::bytes(kit)).err().unwrap_or(0);
+    match (number(&pair.kit), number(&pair.less)) {
+        (0, 0) => Ok(true),
+        (4, 0) if pair.kit.events.len() as u32 == EVENTS + 1 => {
+            meet("idles: an event too many");
+            Ok(false)
+        }
+        (one, other) => Err(format!("one is refused with {one}, the other with {other}")),
+    }
+}
+
+/// Both plays side by side: every room and every answer.
+fn rooms(pair: &Pair, meet: &mut dyn FnMut(&'static str)) -> Result<(), String> {
+    let (mut room, mut beside) = (Room::new(&pair.kit), Room::new(&pair.less));
+    let mut refused = false;
+    for n in 0..=pair.less.events.len() {
+        if n == pair.at {
+            place_cases(pair, &room, meet);
+            if room.step(&pair.kit.events[n]) != 0 {
+                return Err(format!("event {n} is no idle"));
+            }
+            if pair.kit.events[n] == idle(0) && !same_room(&room, &beside) {
+                return Err(format!("an idle of 0 at place {n} changes the room"));
+            }
+        }
+        let Some(event) = pair.less.events.get(n) else { break };
+        let answer = beside.step(event);
+        if room.step(&pair.kit.events[n + usize::from(n >= pair.at)]) != answer || !same_room(&room, &beside) {
+            return Err(format!("event {n} of the kit with one idle less"));
+        }
+        refused |= n > pair.at && answer != 0;
+    }
+    if refused {
+        meet("idles: a refused event behind");
+    }
+    Ok(())
+}
+
+/// What the place of the edit is like; the room is the one before it.
+fn place_cases(pair: &Pair, room: &Room, meet: &mut dyn FnMut(&'static str)) {
+    let (n, gap) = (pair.at, pair.kit.events[pair.at].gap);
+    if gap == 0 && pair.at == 0 {
+        meet("idles: 0 before the first event");
+    }
+    if gap == 0 && pair.at + 1 == pair.kit.events.len() {
+        meet("idles: 0 behind the last event");
+    }
+    if gap == 0 && is_nearly_late(room) {
+        meet("idles: 0 one tick before somebody is late");
+    }
+    if room.late.is_some() {
+        meet("idles: late before");
+    }
+    let Some(next) = pair.kit.events.get(n + 1).filter(|next| next.action == Action::Idle) else { return };
+    if gap == 0 || next.gap == 0 {
+        meet("idles: cut so that a part is 0");
+    }
+    let (mut first, mut second) = (room.clone(), room.clone());
+    first.step(&pair.kit.events[n]);
+    second.step(&idle(gap.saturating_add(next.gap).min(TICKS)));
+    match (room.late, first.late, second.late) {
+        (None, Some(tick), _) if tick == first.clock => meet("idles: late at the very cut"),
+        (None, Some(_), _) => meet("idles: late in the first part of two"),
+        (None, None, Some(_)) => meet("idles: late in the second part of two"),
+        (None, None, None) => meet("idles: never late"),
+        _ => {}
+    }
+}
+
+/// A printed play without the line of an event, the later events numbered one lower.
+pub fn without_line(text: &str, events: usize, at: usize) -> String {
+    let lines = text.split_inclusive('\n').enumerate().filter(|&(i, _)| i != at);
+    let lowered = lines.map(|(i, line)| match line.split_once(' ') {
+        Some((_, rest)) if i > at && i < events => format!("{i} {rest}"),
+        _ => line.to_string(),
+    });
+    lowered.collect()
+}
