@@ -3,7 +3,7 @@
 
 use crate::kit::{self, Action, Event, Kit, EVENTS, TICKS};
 use crate::play::Room;
-use crate::print::play_of;
+use crate::print::{play_of, INPUT};
 use crate::random::Random;
 
 /// Every case that a run has to meet.
@@ -12,17 +12,19 @@ pub const CASES: &[&str] = &[
     "idles: one cut in two",
     "idles: 0 taken out",
     "idles: 0 put in",
-    "idles: cut so that a part is 0",
-    "idles: late in the first part of two",
-    "idles: late in the second part of two",
-    "idles: late at the very cut",
-    "idles: late before",
-    "idles: never late",
+    "idles: one of two neighbours is of 0",
+    "idles: late in the first of two",
+    "idles: late in the second of two",
+    "idles: late where the first of two ends",
+    "idles: late before the two",
+    "idles: nobody late by the end of the two",
     "idles: 0 before the first event",
     "idles: 0 behind the last event",
     "idles: 0 one tick before somebody is late",
     "idles: a refused event behind",
     "idles: an event too many",
+    "idles: past 65,536 bytes",
+    "idles: a sum past 2^28-1",
 ];
 
 /// A kit and the same kit with one idle less: event `at` of the first, counted from 0, is not in the second.
@@ -82,14 +84,14 @@ fn put_in(kit: &Kit, at: usize) -> Pair {
 pub fn edits(kit: &Kit, random: &mut Random) -> Vec<Pair> {
     let places = |good: &dyn Fn(usize) -> bool| (0..kit.events.len()).filter(|&at| good(at)).collect::<Vec<usize>>();
     let is_idle = |at: usize| kit.events[at].action == Action::Idle;
-    let some = |places: Vec<usize>, random: &mut Random| (!places.is_empty()).then(|| random.pick(&places));
+    let one_of = |places: &[usize], random: &mut Random| (!places.is_empty()).then(|| random.pick(places));
     let mut all = vec![put_in(kit, random.below(kit.events.len() + 1))];
     let cuts = [places(&is_idle), places(&is_idle), late_at(kit).filter(|&at| is_idle(at)).into_iter().collect()];
-    for place in cuts {
-        all.extend(some(place, random).map(|at| cut(kit, at, cut_point(kit, at, random))));
+    for places in cuts {
+        all.extend(one_of(&places, random).map(|at| cut(kit, at, cut_point(kit, at, random))));
     }
-    all.extend(some(places(&|at| join(kit, at).is_some()), random).and_then(|at| join(kit, at)));
-    all.extend(some(places(&|at| kit.events[at] == idle(0)), random).map(|at| take_out(kit, at)));
+    all.extend(one_of(&places(&|at| join(kit, at).is_some()), random).and_then(|at| join(kit, at)));
+    all.extend(one_of(&places(&|at| kit.events[at] == idle(0)), random).map(|at| take_out(kit, at)));
     if let Some(at) = place_one_tick_before(kit) {
         all.push(put_in(kit, at));
     }
@@ -157,14 +159,31 @@ pub fn check(pair: &Pair, meet: &mut dyn FnMut(&'static str)) -> Result<(), Stri
         return Ok(());
     }
     rooms(pair, meet)?;
-    if play_of(&pair.less) == without_line(&play_of(&pair.kit), pair.kit.events.len(), pair.at) {
-        Ok(())
-    } else {
-        Err("the printed plays".to_string())
+    if play_of(&pair.less) != without_line(&play_of(&pair.kit), pair.kit.events.len(), pair.at) {
+        return Err("the printed plays".to_string());
+    }
+    if kit::bytes(&pair.less).len() <= INPUT && kit::bytes(&pair.kit).len() > INPUT {
+        meet("idles: past 65,536 bytes");
+    }
+    Ok(())
+}
+
+/// Two neighbouring idles whose sum no gap can be: the kit with one of that gap is refused.
+pub fn check_long_sums(kit: &Kit, meet: &mut dyn FnMut(&'static str)) -> Result<(), String> {
+    let is_long = |at: &usize| {
+        let [a, b] = &kit.events[*at..*at + 2] else { unreachable!("two events") };
+        a.action == Action::Idle && b.action == Action::Idle && a.gap + b.gap > TICKS
+    };
+    let Some(at) = (1..kit.events.len()).map(|behind| behind - 1).find(is_long) else { return Ok(()) };
+    meet("idles: a sum past 2^28-1");
+    let joined = replaced(kit, at, 2, &[idle(kit.events[at].gap + kit.events[at + 1].gap)]);
+    match kit::read(&kit::bytes(&joined)) {
+        Err(4) => Ok(()),
+        other => Err(format!("a gap past 2^28-1 is read as {:?}", other.map(|kit| kit.events[at].gap))),
     }
 }
 
-/// Both are kits or neither is, but for the count of events.
+/// Both are kits, but where the longer one has an event too many: it is refused with 4.
 fn both_good(pair: &Pair, meet: &mut dyn FnMut(&'static str)) -> Result<bool, String> {
     let number = |kit: &Kit| kit::read(&kit::bytes(kit)).err().unwrap_or(0);
     match (number(&pair.kit), number(&pair.less)) {
@@ -184,8 +203,8 @@ fn rooms(pair: &Pair, meet: &mut dyn FnMut(&'static str)) -> Result<(), String> 
     for n in 0..=pair.less.events.len() {
         if n == pair.at {
             place_cases(pair, &room, meet);
-            if room.step(&pair.kit.events[n]) != 0 {
-                return Err(format!("event {n} is no idle"));
+            if pair.kit.events[n].action != Action::Idle || room.step(&pair.kit.events[n]) != 0 {
+                return Err(format!("the event at place {n} is no idle, or is refused"));
             }
             if pair.kit.events[n] == idle(0) && !same_room(&room, &beside) {
                 return Err(format!("an idle of 0 at place {n} changes the room"));
@@ -194,7 +213,7 @@ fn rooms(pair: &Pair, meet: &mut dyn FnMut(&'static str)) -> Result<(), String> 
         let Some(event) = pair.less.events.get(n) else { break };
         let answer = beside.step(event);
         if room.step(&pair.kit.events[n + usize::from(n >= pair.at)]) != answer || !same_room(&room, &beside) {
-            return Err(format!("event {n} of the kit with one idle less"));
+            return Err(format!("the event at place {n} of the kit with one idle less"));
         }
         refused |= n > pair.at && answer != 0;
     }
@@ -216,22 +235,19 @@ fn place_cases(pair: &Pair, room: &Room, meet: &mut dyn FnMut(&'static str)) {
     if gap == 0 && is_nearly_late(room) {
         meet("idles: 0 one tick before somebody is late");
     }
-    if room.late.is_some() {
-        meet("idles: late before");
-    }
     let Some(next) = pair.kit.events.get(n + 1).filter(|next| next.action == Action::Idle) else { return };
     if gap == 0 || next.gap == 0 {
-        meet("idles: cut so that a part is 0");
+        meet("idles: one of two neighbours is of 0");
     }
     let (mut first, mut second) = (room.clone(), room.clone());
     first.step(&pair.kit.events[n]);
-    second.step(&idle(gap.saturating_add(next.gap).min(TICKS)));
+    second.step(&idle(gap + next.gap));
     match (room.late, first.late, second.late) {
-        (None, Some(tick), _) if tick == first.clock => meet("idles: late at the very cut"),
-        (None, Some(_), _) => meet("idles: late in the first part of two"),
-        (None, None, Some(_)) => meet("idles: late in the second part of two"),
-        (None, None, None) => meet("idles: never late"),
-        _ => {}
+        (None, Some(tick), _) if tick == first.clock => meet("idles: late where the first of two ends"),
+        (None, Some(_), _) => meet("idles: late in the first of two"),
+        (None, None, Some(_)) => meet("idles: late in the second of two"),
+        (None, None, None) => meet("idles: nobody late by the end of the two"),
+        (Some(_), ..) => meet("idles: late before the two"),
     }
 }
 

@@ -74,6 +74,11 @@ impl Tally {
         idle::check(pair, &mut |case| *self.cases.entry(case).or_insert(0) += 1)
     }
 
+    /// Tries to join what is too long to be joined, if the kit has it.
+    pub fn joined_too_long(&mut self, kit: &Kit) -> Result<(), String> {
+        idle::check_long_sums(kit, &mut |case| *self.cases.entry(case).or_insert(0) += 1)
+    }
+
     fn rows(&self) -> Vec<(String, u64)> {
         let kits = KIT_NUMBERS.iter().map(|&n| (format!("kit {n}"), self.kit_numbers[n]));
         let answers = ANSWERS.iter().map(|&n| (format!("answer {n}"), self.answers[n]));

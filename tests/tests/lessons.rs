@@ -83,7 +83,7 @@ fn the_wrong_number() {
     assert_eq!(least_patience(old), 6);
 }
 
-/// However the pause in `late` is cut, the page's kit is that play without a line.
+/// However the pause in `late` is cut: without the line of its first part the play is the one beside the page.
 #[test]
 fn a_pause_may_be_cut() {
     let late = kit("late");

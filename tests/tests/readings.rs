@@ -226,7 +226,7 @@ fn l3_the_patience_decides_the_late_tick_alone() {
     }
 }
 
-/// Twelve ticks, however they are cut: the same clock, the same late tick, and the same room.
+/// Twelve ticks, however they are cut: the same clock and the same late tick; and what is printed.
 #[test]
 fn l9_idle_time_is_cut_and_joined() {
     for pauses in ["12 6", "6 6 / 6 6", "9 6 / 3 6", "10 6 / 2 6", "8 6 / 4 6", "0 6 / 12 6", "4 6 / 0 6 / 8 6"] {

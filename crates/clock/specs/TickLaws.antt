@@ -1,6 +1,6 @@
 -- Laws of Tick: where the search stops; and on a laid-out room what one submission is, where the search stops, and that the late tick found
 -- there is the rules'. Assumes nothing.
-use mathlib.Core.Path.{_≡_, refl, sym, ap, _∙_}
+use mathlib.Core.Path.{_≡_, sym, ap, _∙_}
 use mathlib.Core.Bool.{Bool, true, false, _&&_}
 use mathlib.Core.Logic.{by-cases}
 use mathlib.Core.Option.{none, some}
@@ -18,8 +18,9 @@ use Rattle.terms.specs.ListLaws.{split, and-r, nth-in, nth-lt, nth-drop, nth-ge
 use Rattle.terms.specs.Kit.{Kit}
 use Rattle.terms.specs.Padding.{pad, getD-pad}
 use Rattle.rules.specs.Room.{Room, withClock}
-use Rattle.rules.specs.Reading.{answered, answeredAt}
+use Rattle.rules.specs.Reading.{answered}
 use Rattle.rules.specs.Clock.{overdue}
+use Rattle.rules.specs.laws.Answered.{answered-clock}
 use Rattle.ledger.specs.LedgerLayout.{layLedger, layIssued}
 use Rattle.room.specs.Layout.{layRoles, layTable}
 use Rattle.room.specs.Bounds.{Bounds}
@@ -51,11 +52,6 @@ first-fails t i (suc n) h =
     (λ e. rw e e)
 
 -- ---- a room within bounds, and a gap of a kit: no sum of ticks reaches 2^64
-
--- the clock does not matter to what is answered
-answered-later : (kit : Kit) (r : Room) (n request : ℕ) → answered kit (withClock r n) request ≡ answered kit r request
-unfolding answered answeredAt withClock
-answered-later kit r n request = refl
 
 -- a tick that is past is due when the wait is at least the patience
 due-wait : (u patience clock : ℕ) → u ≤ clock → u + patience < 2 ^ 64 → isDue u patience clock ≡ leb patience (clock - u)
@@ -131,7 +127,7 @@ module _ (kit : Kit) (r : Room) (known gap : ℕ) (b : Bounds kit r) (k : Known 
   later = withClock r clock
 
   skips : overdue kit later (r .submitted) (r .ticks) ≡ overdue kit later (drop stop (r .submitted)) (drop stop (r .ticks))
-  skips = overdue-skip kit later (r .submitted) (r .ticks) stop (λ i q h e. answered-later kit r clock q ∙ stop-known .all-answered i q h e)
+  skips = overdue-skip kit later (r .submitted) (r .ticks) stop (λ i q h e. answered-clock kit r clock q ∙ stop-known .all-answered i q h e)
 
   -- a later submission has waited no longer
   waits-less : (u i v : ℕ) → nth (r .ticks) stop ≡ some u → nth (drop stop (r .ticks)) i ≡ some v → leb (kit .patience) (clock - u) ≡ false → leb (kit .patience) (clock - v) ≡ false
@@ -156,7 +152,7 @@ module _ (kit : Kit) (r : Room) (known gap : ℕ) (b : Bounds kit r) (k : Known 
       (split (leb (kit .patience) (clock - u .0))
       (λ w. let open-one : answered kit r (q .0) ≡ false = rw w at (sym test-is ∙ first-fails test known (length (r .submitted) - known) (omega (arith, k .within))) in
       rw w
-      (overdue-here kit later (r .submitted) (r .ticks) stop (q .0) (u .0) (q .1) (u .1) (answered-later kit r clock (q .0) ∙ open-one) w
+      (overdue-here kit later (r .submitted) (r .ticks) stop (q .0) (u .0) (q .1) (u .1) (answered-clock kit r clock (q .0) ∙ open-one) w
       ∙ ap (λ (n : ℕ). some n) (sym (mod-eq-of-lt (fits .1)))))
       (λ w. rw w (overdue-none kit later (drop stop (r .submitted)) (drop stop (r .ticks)) (λ i v e. waits-less (u .0) i v (u .1) e w)))))
       (λ over. let past : length (r .submitted) ≤ stop = omega arith in

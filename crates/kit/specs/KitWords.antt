@@ -1,7 +1,7 @@
--- Each number of a kit is below 2^32 if those of its settings are, and those of each of its events. Assumes nothing.
+-- Each number of a kit is below 2^32 if those of its settings are, the count of its events, and those of each event. Assumes nothing.
 use mathlib.Core.Path.{_≡_, refl, subst}
 use mathlib.Core.Option.{some}
-use mathlib.Core.List.{List, [], _∷_, _++_}
+use mathlib.Core.List.{List, [], _∷_}
 use Prim.Native.Nat.{ℕ, zero, suc, _<_, _^_}
 use lib.ListN.{length}
 use Rattle.terms.specs.Lists.{nth}

@@ -7,7 +7,6 @@ use mathlib.Core.List.{List}
 use Prim.Native.Nat.{ℕ, suc, _≤_, _<_}
 use lib.ListN.{length}
 use borrow.Author.Tests.{ne-eqb}
-use Rattle.terms.specs.Limits.{eventsMax}
 use Rattle.terms.specs.Lists.{nth, within}
 use Rattle.terms.specs.ListLaws.{nth-in}
 use Rattle.terms.specs.Kit.{Kit, Entry}
@@ -19,7 +18,6 @@ use Rattle.rules.specs.Clock.{tick}
 use Rattle.rules.specs.Play.{after, step, answer}
 use Rattle.rules.specs.Growth.{after-suc}
 use Rattle.rules.specs.laws.Refused.{Ticked, tick-ticked, refused-is-ticked}
-use Rattle.rules.specs.laws.IdleEdits.{OneIdleLess}
 use Rattle.rules.specs.agreement.Theorem.{SettledListsAgree, settled-lists-agree}
 use Rattle.room.specs.Layout.{layRoles, layTable}
 use Rattle.number.specs.Number.{Bytes}
@@ -33,7 +31,7 @@ use Rattle.printing.specs.Lines.{kitLine}
 use Rattle.printing.specs.PlayText.{playText}
 use Rattle.printed.specs.Printed.{printedText}
 use Rattle.printed.specs.Theorem.{first-stage, is-fresh, play-printed}
-use Rattle.printed.specs.Edits.{bytesOf, OneIdleApart, idle-less, idle-more}
+use Rattle.printed.specs.Edits.{EditorMay, editor-may}
 
 -- an event's number is 0, or 11 to 24
 abbrev pub EventNumber : ℕ → Type 0
@@ -80,11 +78,8 @@ pub record Demands (bytes : List ℕ) (kit : Kit) : Type 0 where
   pub prints : printedText bytes ≡ playText kit
   -- demand 3
   pub agree : SettledListsAgree kit
-  -- what an editor may do: with two idles at places n and n+1 made one, or one of 0 taken out, the kit's bytes are accepted, and it plays and prints as
-  -- this one does without event n
-  pub idle-less : (n : ℕ) (kit₁ : Kit) → OneIdleLess n kit kit₁ → OneIdleApart n kit kit₁
-  -- with one cut in two, or one of 0 put in, they are if there are at most 4,096 events, and this one plays and prints as that one without event n
-  pub idle-more : (n : ℕ) (kit₁ : Kit) → OneIdleLess n kit₁ kit → length (kit₁ .events) ≤ eventsMax → OneIdleApart n kit₁ kit
+  -- what an editor may do: join idles, cut one, take out an idle of 0 or put one in (`bytesOf kit` there is `bytes`, by `spells`)
+  pub editor : EditorMay kit
 
 refused-ticks : (kit : Kit) (n : ℕ) (e : Entry) → nth (kit .events) n ≡ some e → (step kit (after kit n) e .answer ≡ Answer.Taken → ⊥)
     → after kit (suc n) ≡ tick kit (after kit n) (e .gap)
@@ -95,7 +90,6 @@ unfolding answer
 demands bytes are e =
     let kit = kitOf bytes in
     let s = accepted-spells bytes are e in
-    let own : Spells (bytesOf kit) kit = record { good = s .good; words = s .words; same = refl } in
     record {
       spells = s;
       answers = λ n h. let at = nth-in (kit .events) n h in
@@ -105,8 +99,7 @@ demands bytes are e =
       shows = λ n fits. player-shows bytes kit s n fits (first-stage bytes kit s) (is-fresh bytes kit s);
       prints = play-printed bytes kit s;
       agree = settled-lists-agree kit (s .good);
-      idle-less = λ n kit₁ i. idle-less n kit kit₁ own i;
-      idle-more = λ n kit₁ i few. idle-more n kit₁ kit own i few;
+      editor = editor-may kit (record { good = s .good; words = s .words; same = refl });
     }
 
 -- a refused kit prints its number and nothing is played

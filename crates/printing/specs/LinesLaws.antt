@@ -1,7 +1,7 @@
 -- Laws of Lines: texts that are put line by line, and lists read in part. Assumes nothing.
 use mathlib.Core.Path.{_≡_, refl, sym, ap, _∙_}
 use mathlib.Core.Logic.{by-cases}
-use mathlib.Core.List.{List, [], _∷_, _++_}
+use mathlib.Core.List.{List, [], _∷_, _++_, append-assoc}
 use Prim.Native.Nat.{ℕ, zero, suc, _+_, _-_, _≤_, _<_, min}
 use native.Mathlib.Nat.{le-of-suc-le-suc, not-suc-le-zero}
 use native.Mathlib.Numerals.{add-one}
@@ -53,6 +53,27 @@ pub lines-ext : (m i : ℕ) (f g : ℕ → List ℕ) → ((k : ℕ) → k < i + 
 unfolding linesFrom
 lines-ext zero i f g e = refl
 lines-ext (suc m) i f g e = rw (e i (omega arith), lines-ext m (suc i) f g (λ k h. e k (omega (arith, h))))
+
+lines-append : (a b i : ℕ) (line : ℕ → List ℕ) → linesFrom i (a + b) line ≡ linesFrom i a line ++ linesFrom (i + a) b line
+unfolding linesFrom
+lines-append zero b i line = let here : i + 0 ≡ i = omega arith in let few : 0 + b ≡ b = omega arith in rw (here, few)
+lines-append (suc a) b i line =
+    let many : suc a + b ≡ suc (a + b) = omega arith in
+    let there : i + suc a ≡ suc i + a = omega arith in
+    rw (many, there, lines-append a b (suc i) line) (sym (append-assoc (line i) (linesFrom (suc i) a line) (linesFrom (suc i + a) b line)))
+
+-- the first n of more lines, and the others behind them
+pub lines-at : (n count : ℕ) (line : ℕ → List ℕ) → n ≤ count → linesFrom 0 count line ≡ linesFrom 0 n line ++ linesFrom n (count - n) line
+lines-at n count line l =
+    let sum : count ≡ n + (count - n) = omega arith in
+    let there : 0 + n ≡ n = omega arith in
+    ap (λ (m : ℕ). linesFrom 0 m line) sum ∙ lines-append n (count - n) 0 line ∙ ap (λ (m : ℕ). linesFrom 0 n line ++ linesFrom m (count - n) line) there
+
+-- the same lines, from a number on that is one higher
+pub lines-higher : (m i : ℕ) (f g : ℕ → List ℕ) → ((k : ℕ) → i ≤ k → f k ≡ g (suc k)) → linesFrom i m f ≡ linesFrom (suc i) m g
+unfolding linesFrom
+lines-higher zero i f g e = refl
+lines-higher (suc m) i f g e = rw (e i (omega arith), lines-higher m (suc i) f g (λ k h. e k (omega arith)))
 
 -- one request more
 pub requests-next : (l : List ℕ) (i : ℕ) → i < length l → requestsText (drop i l) ≡ spaced (getD l i 0) ++ requestsText (drop (i + 1) l)

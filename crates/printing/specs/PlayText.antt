@@ -29,12 +29,13 @@ replicaSaid kit r x =
     let p = r .replica x in
     replicaLine x (p .condition) (pick (isFaulty (p .condition)) 0 (p .mark)) (settled kit r x)
 
+-- the lines of the replicas and of the late tick
+unfoldable pub roomSaid : Kit → Room → List ℕ
+roomSaid kit r = linesFrom 0 (length (kit .table)) (replicaSaid kit r) ++ lateText (isSome (r .late)) (numberOr0 (r .late))
+
 -- the play of the first n events
 unfoldable pub textAfter : Kit → ℕ → List ℕ
-textAfter kit n =
-    let r = after kit n in
-    linesFrom 0 n (eventSaid kit)
-    ++ (linesFrom 0 (length (kit .table)) (replicaSaid kit r) ++ lateText (isSome (r .late)) (numberOr0 (r .late)))
+textAfter kit n = linesFrom 0 n (eventSaid kit) ++ roomSaid kit (after kit n)
 
 -- the play of them all
 unfoldable pub playText : Kit → List ℕ

@@ -32,7 +32,7 @@ use Rattle.room.specs.GoodLaws.{size-max, leader-max}
 use Rattle.printing.specs.Lines.{linesFrom}
 use Rattle.printing.specs.LinesLaws.{lines-ext, take-least}
 use Rattle.printing.specs.PlayLines.{eventLines, notedShown, heldShown, lineIn, seatLine, seatLines, playLines}
-use Rattle.printing.specs.PlayText.{numberSaid, eventSaid, replicaSaid, textAfter}
+use Rattle.printing.specs.PlayText.{numberSaid, eventSaid, replicaSaid, roomSaid, textAfter}
 
 -- the first so many of the requests that are noted
 first-said : (p : Rules.Replica) (c : ℕ) → take (min c (layReplica p .count)) (layReplica p .noted) ≡ take c (p .noted)
@@ -124,5 +124,5 @@ partsLines kit n clocks answers p =
 
 pub play-said : (kit : Kit) (n : ℕ) → n ≤ 4096 → Bounds kit (after kit n) → (clocks answers : List ℕ) → Says kit n clocks answers
     → (known : ℕ) → partsLines kit n clocks answers (layRoom (after kit n) known) ≡ textAfter kit n
-unfolding playLines textAfter layRoom layDesk
+unfolding playLines textAfter roomSaid layRoom layDesk
 play-said kit n small b clocks answers s known = rw (events-said kit n small clocks answers s, seats-said kit (after kit n) b)

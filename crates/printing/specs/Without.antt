@@ -1,11 +1,10 @@
--- The printed play of a kit without one of its events: that event's line is gone, and the later events are numbered one lower. So is printed the
--- kit with one idle less. Assumes nothing.
-use mathlib.Core.Path.{_≡_, refl, sym, ap, _∙_}
+-- The printed play of a kit without the line of one event, the later events numbered one lower: the kit with one idle less prints this. Places are
+-- counted from 0, so that the line of the event at place k has the number k+1. Assumes nothing.
+use mathlib.Core.Path.{_≡_, refl, ap, _∙_}
 use mathlib.Core.List.{List, _++_, append-assoc}
-use Prim.Native.Nat.{ℕ, zero, suc, _+_, _-_, _≤_, _<_}
+use Prim.Native.Nat.{ℕ, suc, _+_, _-_, _≤_, _<_}
 use native.Mathlib.Omega.{arith}
 use lib.ListN.{length}
-use Rattle.terms.specs.Lists.{isSome}
 use Rattle.terms.specs.Kit.{Kit, Entry}
 use Rattle.rules.specs.Table.{isActive, actives}
 use Rattle.rules.specs.Room.{Room}
@@ -14,54 +13,26 @@ use Rattle.rules.specs.Play.{after, answer}
 use Rattle.rules.specs.laws.Settings.{sameTable}
 use Rattle.rules.specs.laws.Instead.{withEvents}
 use Rattle.rules.specs.laws.IdleEdits.{OneIdleLess, PlaysWithout, plays-without, OneEventLess, one-event-less}
-use Rattle.replica.specs.RecordLayout.{numberOr0}
-use Rattle.printing.specs.Lines.{eventLine, lateText, linesFrom}
-use Rattle.printing.specs.LinesLaws.{lines-ext}
-use Rattle.printing.specs.PlayText.{numberSaid, eventSaid, replicaSaid, textAfter, playText}
+use Rattle.printing.specs.Lines.{eventLine, linesFrom}
+use Rattle.printing.specs.LinesLaws.{lines-ext, lines-at, lines-higher}
+use Rattle.printing.specs.PlayText.{numberSaid, eventSaid, replicaSaid, roomSaid, textAfter, playText}
 
--- the line of event k with a number that is one lower
+-- the line of the event at place k under the number k instead of k+1
 unfoldable pub lowered : Kit → ℕ → List ℕ
 lowered kit k = eventLine k (after kit (suc k) .clock) (numberSaid (answer kit k))
 
--- the lines of the replicas and of the late tick
-unfoldable pub roomSaid : Kit → Room → List ℕ
-roomSaid kit r = linesFrom 0 (length (kit .table)) (replicaSaid kit r) ++ lateText (isSome (r .late)) (numberOr0 (r .late))
-
--- in the end
+-- the lines of the replicas and of the late tick in the end
 abbrev pub endSaid : Kit → List ℕ
 endSaid kit = roomSaid kit (after kit (length (kit .events)))
 
--- the printed play, with the line of event n apart
+-- the printed play, with the line of the event at place n apart
 unfoldable pub textWith : ℕ → Kit → List ℕ
 textWith n kit =
     linesFrom 0 n (eventSaid kit) ++ (eventSaid kit n ++ (linesFrom (suc n) (length (kit .events) - suc n) (eventSaid kit) ++ endSaid kit))
 
--- the printed play without it
+-- the printed play without that line
 unfoldable pub textWithout : ℕ → Kit → List ℕ
 textWithout n kit = linesFrom 0 n (eventSaid kit) ++ (linesFrom (suc n) (length (kit .events) - suc n) (lowered kit) ++ endSaid kit)
-
--- ---- lines in two parts
-
-lines-append : (a b i : ℕ) (line : ℕ → List ℕ) → linesFrom i (a + b) line ≡ linesFrom i a line ++ linesFrom (i + a) b line
-unfolding linesFrom
-lines-append zero b i line = let here : i + 0 ≡ i = omega arith in let few : 0 + b ≡ b = omega arith in rw (here, few)
-lines-append (suc a) b i line =
-    let many : suc a + b ≡ suc (a + b) = omega arith in
-    let there : i + suc a ≡ suc i + a = omega arith in
-    rw (many, there, lines-append a b (suc i) line) (sym (append-assoc (line i) (linesFrom (suc i) a line) (linesFrom (suc i + a) b line)))
-
--- the first n of more lines, and the others behind them
-lines-at : (n count : ℕ) (line : ℕ → List ℕ) → n ≤ count → linesFrom 0 count line ≡ linesFrom 0 n line ++ linesFrom n (count - n) line
-lines-at n count line l =
-    let sum : count ≡ n + (count - n) = omega arith in
-    let there : 0 + n ≡ n = omega arith in
-    ap (λ (m : ℕ). linesFrom 0 m line) sum ∙ lines-append n (count - n) 0 line ∙ ap (λ (m : ℕ). linesFrom 0 n line ++ linesFrom m (count - n) line) there
-
--- the same lines, from a number on that is one higher
-lines-higher : (m i : ℕ) (f g : ℕ → List ℕ) → ((k : ℕ) → i ≤ k → f k ≡ g (suc k)) → linesFrom i m f ≡ linesFrom (suc i) m g
-unfolding linesFrom
-lines-higher zero i f g e = refl
-lines-higher (suc m) i f g e = rw (e i (omega arith), lines-higher m (suc i) f g (λ k h. e k (omega arith)))
 
 -- ---- the printed play in two parts
 

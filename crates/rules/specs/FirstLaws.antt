@@ -26,8 +26,8 @@ use Rattle.rules.specs.laws.Time.{gaps, clock-is-sum, late-stays, Timed,
 use Rattle.rules.specs.laws.Answered.{answered-after}
 use Rattle.rules.specs.laws.Halting.{TakenPanic, halts-by-panic}
 use Rattle.rules.specs.laws.Patience.{withPatience, ButLate, patience-room, patience-answer}
-use Rattle.rules.specs.laws.Idle.{idle, idle-joined-after, idle-none}
-use Rattle.rules.specs.laws.IdleEdits.{OneIdleLess, PlaysWithout, plays-without}
+use Rattle.rules.specs.laws.Idle.{idle, idle-joined-after, idle-zero}
+use Rattle.rules.specs.laws.IdleEdits.{OneIdleLess, PlaysWithout, plays-without, GoodTogether, good-together}
 use Rattle.rules.specs.agreement.Bounds.{Bounds, bounds, settles-one}
 
 pub record FirstLaws (kit : Kit) : Type 0 where
@@ -55,11 +55,13 @@ pub record FirstLaws (kit : Kit) : Type 0 where
   -- ticks never fall along the submissions, and none is past the clock
   pub ticks : (n : ℕ) → Timed (after kit n)
   -- an idle of a ticks and then one of b leave the room, and have the answer, of one of a+b
-  pub idles : (n a b : ℕ) → step kit (step kit (after kit n) (idle a) .room) (idle b) ≡ step kit (after kit n) (idle (a + b))
+  pub idle-joined : (n a b : ℕ) → step kit (step kit (after kit n) (idle a) .room) (idle b) ≡ step kit (after kit n) (idle (a + b))
   -- an idle of 0 is taken and changes nothing
-  pub idle-of-none : 1 ≤ kit .patience → (n : ℕ) → step kit (after kit n) (idle 0) ≡ taken (after kit n)
-  -- with one idle less at place n, a kit plays as it did without event n
+  pub idle-zero : 1 ≤ kit .patience → (n : ℕ) → step kit (after kit n) (idle 0) ≡ taken (after kit n)
+  -- with two idles from place n on made one, or an idle of 0 there taken out: all before is the same, all later too, numbered one lower
   pub idle-less : (n : ℕ) (kit₁ : Kit) → 1 ≤ kit .patience → OneIdleLess n kit kit₁ → PlaysWithout n kit kit₁
+  -- and both are good kits or neither is, but for the count of events
+  pub idle-good : (n : ℕ) (kit₁ : Kit) → OneIdleLess n kit kit₁ → GoodTogether kit kit₁
   -- an answered request stays answered
   pub answers : (m n : ℕ) → m ≤ n → (request : ℕ) → answered kit (after kit m) request ≡ true → answered kit (after kit n) request ≡ true
   -- event 7 is taken at most once
@@ -86,9 +88,10 @@ first-laws kit =
       clock = clock-is-sum kit;
       late = late-stays kit;
       ticks = timed kit;
-      idles = idle-joined-after kit;
-      idle-of-none = idle-none kit;
+      idle-joined = idle-joined-after kit;
+      idle-zero = idle-zero kit;
       idle-less = λ n kit₁ low i. plays-without low i;
+      idle-good = λ n kit₁ i. good-together i;
       answers = answered-after kit;
       built-once = build-once kit;
     }

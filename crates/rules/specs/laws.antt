@@ -1,7 +1,8 @@
 -- The first laws of the rules: what an event can change (Changes), and from that what refusals leave alone (Refused), what is issued
 -- (Certificates), the clock and its ticks (Time), answered requests (Answered) and the late tick (Lateness), at every moment (Moments); that only
--- a PANIC halts (Halting); what an event looks at (Settings, LateAside), and so that the patience decides the late tick alone (Patience). FirstLaws
--- has them on one page. Assumes nothing.
+-- a PANIC halts (Halting); what an event looks at (Settings, LateAside), and so that the patience decides the late tick alone (Patience); idle
+-- time in a room (Idle), a kit with some of its events replaced (Instead), and from both what an editor may do to a kit's idle time (IdleEdits, with
+-- IdleRows by computation). FirstLaws has what is true of every kit on one page. Assumes nothing.
 pub mod Moments
 pub mod Changes
 pub mod Refused

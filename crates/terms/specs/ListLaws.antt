@@ -1,5 +1,5 @@
 -- Laws of Lists: tests taken apart, elements by place, prefixes, counting, the least. Assumes nothing.
-use mathlib.Core.Path.{_≡_, refl, ap}
+use mathlib.Core.Path.{_≡_, refl, sym, ap, _∙_}
 use mathlib.Core.Bool.{Bool, true, false, not, _&&_, _||_, or-true}
 use mathlib.Core.Logic.{_⊎_, inl, inr, ⊎-elim, _≢_}
 use mathlib.Core.Option.{some}
@@ -8,6 +8,7 @@ use Prim.Native.Nat.{ℕ, zero, suc, _+_, _≤_, _<_}
 use native.Mathlib.Nat.{le-of-suc-le-suc}
 use native.Mathlib.Omega.{arith}
 use lib.ListN.{length, take, drop, getD, length-append}
+use lib.Seq.{drop-append-seam}
 use lib.Dec.{ltb, eqb}
 use borrow.Author.Tests.{ltb-true, ltb-false, eqb-true, eqb-false, eq-eqb}
 use Rattle.terms.specs.Lists.{pick, allBelow, anyBelow, allOf, holds, distinct, leastOver, nth, _⊑_, Sub, Agree, Once}
@@ -232,3 +233,6 @@ pub nth-drop {ℓ} : {A : Type ℓ} (k : ℕ) (l : List A) (i : ℕ) → nth (dr
 nth-drop zero l i = let z : 0 + i ≡ i = omega arith in rw z
 nth-drop (suc k) [] i = refl
 nth-drop (suc k) (x ∷ xs) i = let z : suc k + i ≡ suc (k + i) = omega arith in rw z (nth-drop k xs i)
+
+pub nth-behind {ℓ} : {A : Type ℓ} (l m : List A) (i : ℕ) → nth (l ++ m) (length l + i) ≡ nth m i
+nth-behind l m i = sym (nth-drop (length l) (l ++ m) i) ∙ ap (λ (z : List _). nth z i) (drop-append-seam l m)

@@ -58,9 +58,10 @@ fn main() -> ExitCode {
         }
     };
     let fixed = if options.from == 0 { generator::fixed() } else { Vec::new() };
-    let mut run = Run { options, tally: Tally::default(), differences: 0, breaches: 0, strays: 0 };
+    let mut run = Run { options, tally: Tally::default(), differences: 0, breaches: 0, breaches_of_l9: 0 };
     for (i, bytes) in fixed.iter().enumerate() {
         run.take(format!("fixed-{i}"), bytes, i as u64);
+        run.edit(format!("fixed-{i}"), bytes, i as u64);
     }
     for number in run.options.from..run.options.from + run.options.kits {
         let (seed, bytes) = (run.options.seed, generator::kit_bytes(run.options.seed, number));
@@ -76,7 +77,7 @@ struct Run {
     tally: Tally,
     differences: usize,
     breaches: usize,
-    strays: usize,
+    breaches_of_l9: usize,
 }
 
 impl Run {
@@ -105,12 +106,15 @@ impl Run {
     /// Edits the kit's idle time: the kit that is made is to play as this one does, but for one event. One such kit is then taken as the others are.
     fn edit(&mut self, name: String, bytes: &[u8], number: u64) {
         let Ok(kit) = kit::read(bytes) else { return };
-        let mut random = Random::new(number);
+        let mut random = Random::new(self.options.seed.wrapping_mul(0x1_0000_0003).wrapping_add(number));
         let pairs = idle::edits(&kit, &mut random);
-        for pair in &pairs {
-            if let Err(what) = self.tally.edited(pair) {
-                self.strays += 1;
-                println!("kit {name}, {} at place {}: {what}", pair.edit, pair.at);
+        let mut verdicts: Vec<(String, Result<(), String>)> =
+            pairs.iter().map(|pair| (format!("{} at place {}", pair.edit, pair.at), self.tally.edited(pair))).collect();
+        verdicts.push(("idles: a sum past 2^28-1".to_string(), self.tally.joined_too_long(&kit)));
+        for (edit, verdict) in verdicts {
+            if let Err(what) = verdict {
+                self.breaches_of_l9 += 1;
+                println!("kit {name}, {edit}: {what}");
             }
         }
         let made: Vec<Vec<u8>> =
@@ -130,10 +134,10 @@ impl Run {
             self.options.seed,
             self.differences,
             self.breaches,
-            self.strays,
+            self.breaches_of_l9,
             missing.len()
         );
-        if self.differences + self.breaches + self.strays + missing.len() == 0 {
+        if self.differences + self.breaches + self.breaches_of_l9 + missing.len() == 0 {
             ExitCode::SUCCESS
         } else {
             ExitCode::FAILURE

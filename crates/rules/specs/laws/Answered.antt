@@ -15,7 +15,7 @@ use Rattle.terms.specs.Kit.{Kit}
 use Rattle.terms.specs.declared.Content.{Content}
 use Rattle.terms.specs.declared.Content.the-variants.{Update}
 use Rattle.rules.specs.Table.{up, actives}
-use Rattle.rules.specs.Room.{Room}
+use Rattle.rules.specs.Room.{Room, withClock, withLate}
 use Rattle.rules.specs.Reading.{isContent, secondOf, answeredAt, answered}
 use Rattle.rules.specs.TableLaws.{Roles}
 use Rattle.rules.specs.ReadingLaws.{isContent-same}
@@ -72,6 +72,18 @@ has-answered kit ro r request a =
     let own = a .same (kit .leader) (ro .active-listed (kit .leader) (ro .leader-active)) in
     any-at (length (r .counter (kit .leader) up)) (answeredAt kit r request) (a .i) (nth-lt (r .counter (kit .leader) up) (a .i) own)
     (all-from (actives kit) _ (λ y h. same-update (nth (r .counter y up) (a .i)) request _ (a .same y h ∙ ap (λ (c : Option Content). some (Update request (secondOf c))) (sym own))))
+
+-- ---- it goes by what is issued alone
+
+-- the clock does not matter
+pub answered-clock : (kit : Kit) (r : Room) (clock request : ℕ) → answered kit (withClock r clock) request ≡ answered kit r request
+unfolding answered answeredAt withClock
+answered-clock kit r clock request = refl
+
+-- nor does the late tick
+pub answered-late : (kit : Kit) (r : Room) (late : Option ℕ) (request : ℕ) → answered kit (withLate r late) request ≡ answered kit r request
+unfolding answered answeredAt withLate
+answered-late kit r late request = refl
 
 -- ---- it stays
 

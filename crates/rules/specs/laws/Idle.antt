@@ -1,6 +1,6 @@
 -- Idle time in a room: where ticks never fall, an idle of a ticks and then one of b are one of a+b; in a room that a kit reaches an idle of 0
--- changes nothing. Rows: IdleRows, with rooms that no kit reaches and where neither is so. Of kits: IdleEdits. Assumes nothing.
-use mathlib.Core.Path.{_≡_, refl, sym, ap, _∙_}
+-- changes nothing. IdleRows has rooms that no kit reaches, where neither is so; IdleEdits says it of kits. Assumes nothing.
+use mathlib.Core.Path.{_≡_, refl, sym, ap, _∙_, subst}
 use mathlib.Core.Bool.{true, false, not, _&&_, and-false}
 use mathlib.Core.Option.{Option, none, some}
 use mathlib.Core.List.{List, [], _∷_, _++_}
@@ -11,7 +11,8 @@ use lib.Dec.{leb}
 use borrow.Author.Tests.{leb-true, leb-false, le-leb, lt-leb}
 use Rattle.terms.specs.Lists.{pick, isSome}
 use Rattle.terms.specs.ListLaws.{split, no-way, length-snoc}
-use Rattle.terms.specs.Kit.{Kit, Entry}
+use Rattle.terms.specs.Kit.{Kit, Entry, GoodEvent, GoodEntry}
+use Rattle.terms.specs.declared.Event.{Event}
 use Rattle.terms.specs.declared.Event.the-variants.{Idle}
 use Rattle.rules.specs.Room.{Room, freshRoom, withClock, withLate, withReplica, withHistory, remember, issue}
 use Rattle.rules.specs.Reading.{answered, answeredAt}
@@ -21,13 +22,19 @@ use Rattle.rules.specs.Play.{onEvent, step, play, after}
 use Rattle.rules.specs.Growth.{grows-issue}
 use Rattle.rules.specs.laws.Moments.{always-keeps}
 use Rattle.rules.specs.laws.Changes.{Change, recorded, issued, filed, remembered, changed, event-comes}
-use Rattle.rules.specs.laws.Answered.{answered-stays}
+use Rattle.rules.specs.laws.Answered.{answered-clock, answered-late, answered-stays}
 use Rattle.rules.specs.laws.Time.{NeverFall, Timed, timed, timed-tick, step-timed}
 use Rattle.rules.specs.laws.Lateness.{overdue-first}
 
 -- the idle event of this gap
 abbrev pub idle : ℕ → Entry
 idle gap = record { gap = gap; event = Idle; requests = [] }
+
+-- every idle event of a good kit is one of these
+pub idle-is : (size : ℕ) (e : Entry) → GoodEntry size e → e .event ≡ Idle → e ≡ idle (e .gap)
+idle-is size e good is =
+    let lists-none : GoodEvent size Idle (e .requests) = subst (λ (event : Event). GoodEvent size event (e .requests)) is (good .event) in
+    rw (← is, ← lists-none)
 
 -- ---- two idles
 
@@ -52,15 +59,10 @@ module _ (kit : Kit) (r r₁ : Room) (same : (q : ℕ) → answered kit r₁ q �
       let up = w 0 (suc (f .i)) t (f .tick) (omega arith) refl (f .waits .tick-at) in
       absurd (omega (arith, leb-false (kit .patience) (r .clock - t) h, f .waits .long, up))))
 
--- at each clock the same requests are answered
-answered-at : (kit : Kit) (r : Room) (clock clock₁ : ℕ) (q : ℕ) → answered kit (withClock r clock₁) q ≡ answered kit (withClock r clock) q
-unfolding withClock answered answeredAt
-answered-at kit r clock clock₁ q = refl
-
--- whatever the late tick is
+-- who is overdue does not go by the late tick
 overdue-late : (kit : Kit) (r : Room) (late : Option ℕ) (qs ts : List ℕ) → overdue kit (withLate r late) qs ts ≡ overdue kit r qs ts
-unfolding withLate answered answeredAt
-overdue-late kit r late qs ts = overdue-same kit r (withLate r late) (λ q. refl) refl qs ts
+unfolding withLate
+overdue-late kit r late qs ts = overdue-same kit r (withLate r late) (answered-late kit r late) refl qs ts
 
 -- lateness looks at the whole clock: what is overdue at it, if nothing was known to be late
 tick-late
@@ -83,8 +85,9 @@ tick-joined kit r w a b =
     let sum : r .clock + a + b ≡ r .clock + (a + b) = omega arith in
     let first = withClock r (r .clock + a) in
     let second = withClock r (r .clock + (a + b)) in
+    let same : (q : ℕ) → answered kit second q ≡ answered kit first q = λ q. answered-clock kit r _ q ∙ sym (answered-clock kit r _ q) in
     let late = late-joined (r .late) (overdue kit first (r .submitted) (r .ticks)) (overdue kit second (r .submitted) (r .ticks))
-    (overdue-stays kit first second (answered-at kit r _ _) (omega arith) (r .submitted) (r .ticks) w) in
+    (overdue-stays kit first second same (omega arith) (r .submitted) (r .ticks) w) in
     rw (sum, overdue-late kit second (tick kit r a .late) (r .submitted) (r .ticks), late)
 
 -- two idles leave the room, and have the answer, of one
@@ -100,7 +103,7 @@ idle-joined-after kit n = idle-joined kit (after kit n) (timed kit n .rising)
 
 -- ---- an idle of 0
 
--- where nobody is known to be late nobody is
+-- where there is no late tick, nobody is overdue
 abbrev pub Quiet : Kit → Room → Type 0
 Quiet kit r = r .late ≡ none → overdue kit r (r .submitted) (r .ticks) ≡ none
 
@@ -170,18 +173,19 @@ module _ (kit : Kit) where
   quiet low n =
       always-keeps kit (λ (r : Room). Timed r × Quiet kit r) (λ r e w. (step-timed kit r e (w .0), step-quiet low r e (w .0))) (timed kit 0, λ h. refl) n .1
 
--- where nobody is overdue unknown, no time is no tick
+-- where it leaves the late tick as it was
 found-same : (late found : Option ℕ) → (late ≡ none → found ≡ none) → pick (isSome late) late found ≡ late
 found-same none found h = h refl
 found-same (some n) found h = refl
 
-pub tick-none : (kit : Kit) (r : Room) → Quiet kit r → tick kit r 0 ≡ r
+-- in a quiet room a tick of 0 changes nothing
+pub tick-zero : (kit : Kit) (r : Room) → Quiet kit r → tick kit r 0 ≡ r
 unfolding tick withClock withLate
-tick-none kit r w =
+tick-zero kit r w =
     let now : r .clock + 0 ≡ r .clock = omega arith in
     rw (now, found-same (r .late) (overdue kit r (r .submitted) (r .ticks)) w)
 
 -- an idle of 0 leaves every room that a kit reaches as it is
-pub idle-none : (kit : Kit) → 1 ≤ kit .patience → (n : ℕ) → step kit (after kit n) (idle 0) ≡ taken (after kit n)
+pub idle-zero : (kit : Kit) → 1 ≤ kit .patience → (n : ℕ) → step kit (after kit n) (idle 0) ≡ taken (after kit n)
 unfolding step onEvent
-idle-none kit low n = ap taken (tick-none kit (after kit n) (quiet kit low n))
+idle-zero kit low n = ap taken (tick-zero kit (after kit n) (quiet kit low n))

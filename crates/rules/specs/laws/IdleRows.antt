@@ -1,5 +1,5 @@
--- Idle time, by computation: five ways to spend twelve ticks; an edit of a kit; and two rooms that no kit reaches, where the laws of Idle do not
--- hold: one whose ticks fall, one where somebody is overdue and no late tick is known. Assumes nothing.
+-- Idle time, by computation: seven ways to spend twelve ticks; the four edits of a kit; and rooms that no kit reaches, where the laws of Idle do not
+-- hold: two whose ticks fall, and one where somebody is overdue and there is no late tick. Assumes nothing.
 use mathlib.Core.Path.{_≡_, refl}
 use mathlib.Core.Option.{Option, none, some}
 use mathlib.Core.List.{List, [], _∷_, _++_, map}
@@ -31,15 +31,15 @@ pauses gaps =
 abbrev pub afterIdles : List ℕ → ℕ × Option ℕ
 afterIdles gaps = let r = after (pauses gaps) (2 + length gaps) in (r .clock, r .late)
 
--- ---- rooms that no kit reaches, at a patience of 5
+-- ---- rooms that no kit reaches
 
-abbrev pub five : Kit
-five = record { f = 1; leader = 0; patience = 5; table = 1 ∷ 1 ∷ 0 ∷ []; events = [] }
+abbrev pub ofPatience : ℕ → Kit
+ofPatience patience = record { f = 1; leader = 0; patience = patience; table = 1 ∷ 1 ∷ 0 ∷ []; events = [] }
 
--- these requests were submitted at these ticks; nothing else has happened, and no late tick is known
-abbrev pub waiting : ℕ → List ℕ → List ℕ → Room
-waiting clock requests ticks =
-    let r = freshRoom five in
+-- at this clock: these requests were submitted at these ticks, nothing else has happened, and there is no late tick
+abbrev pub submittedAt : ℕ → List ℕ → List ℕ → Room
+submittedAt clock requests ticks =
+    let r = freshRoom (ofPatience 1) in
     record {
       clock = clock;
       late = none;
@@ -51,17 +51,21 @@ waiting clock requests ticks =
       replica = r .replica;
     }
 
--- the ticks fall
+-- the ticks fall, and one is past the clock
 abbrev pub fallen : Room
-fallen = waiting 0 (7 ∷ 5 ∷ []) (10 ∷ 0 ∷ [])
+fallen = submittedAt 0 (7 ∷ 5 ∷ []) (10 ∷ 0 ∷ [])
+
+-- the ticks fall, and none is past the clock
+abbrev pub fallenWithin : Room
+fallenWithin = submittedAt 10 (7 ∷ 5 ∷ []) (10 ∷ 0 ∷ [])
 
 -- request 7 has waited 20 ticks
-abbrev pub unknown : Room
-unknown = waiting 20 (7 ∷ []) (0 ∷ [])
+abbrev pub overdueUnknown : Room
+overdueUnknown = submittedAt 20 (7 ∷ []) (0 ∷ [])
 
--- the room after some idles
-abbrev pub idled : Room → List ℕ → Room
-idled r gaps = play five r (map idle gaps)
+-- the late tick after some idles, at this patience
+abbrev pub lateAfter : ℕ → Room → List ℕ → Option ℕ
+lateAfter patience r gaps = play (ofPatience patience) r (map idle gaps) .late
 
 -- ---- the rows
 
@@ -72,10 +76,10 @@ pub record IdleRows : Type 0 where
   pub cut-at-nine : afterIdles (9 ∷ 3 ∷ []) ≡ (15, some 11)
   pub cut-at-ten : afterIdles (10 ∷ 2 ∷ []) ≡ (15, some 11)
   pub cut-at-eight : afterIdles (8 ∷ 4 ∷ []) ≡ (15, some 11)
-  pub none-first : afterIdles (0 ∷ 12 ∷ []) ≡ (15, some 11)
+  pub zero-first : afterIdles (0 ∷ 12 ∷ []) ≡ (15, some 11)
   pub in-three : afterIdles (4 ∷ 0 ∷ 8 ∷ []) ≡ (15, some 11)
   -- one tick before the patience is over an idle of 0 makes nobody late, and one of 1 does
-  pub none-early : afterIdles (7 ∷ 0 ∷ []) ≡ (10, none)
+  pub zero-early : afterIdles (7 ∷ 0 ∷ []) ≡ (10, none)
   pub one-more : afterIdles (7 ∷ 0 ∷ 1 ∷ []) ≡ (11, some 11)
   -- the answers behind them are the same, numbered one higher
   pub answers-one : answers (pauses (12 ∷ [])) 5 ≡ 0 ∷ 0 ∷ 0 ∷ 11 ∷ 0 ∷ []
@@ -85,12 +89,14 @@ pub record IdleRows : Type 0 where
   pub cutting : replace 2 1 (idle 6 ∷ idle 6 ∷ []) (pauses (12 ∷ [])) ≡ pauses (6 ∷ 6 ∷ [])
   pub putting-in : replace 2 0 (idle 0 ∷ []) (pauses (12 ∷ [])) ≡ pauses (0 ∷ 12 ∷ [])
   pub taking-out : replace 2 1 [] (pauses (0 ∷ 12 ∷ [])) ≡ pauses (12 ∷ [])
-  -- where ticks fall two idles are not one
+  -- where ticks fall two idles are not one: at a patience of 5; and at one of 15, where the room is quiet and no tick is past the clock
   pub falls : NeverFall (fallen .ticks) → ⊥
-  pub fallen-cut : idled fallen (5 ∷ 10 ∷ []) .late ≡ some 5
-  pub fallen-whole : idled fallen (15 ∷ []) .late ≡ some 15
-  -- where somebody is overdue and it is not known, an idle of 0 finds it
-  pub overdue-unknown : (unknown .late ≡ none) × (idled unknown (0 ∷ []) .late ≡ some 5)
+  pub fallen-cut : lateAfter 5 fallen (5 ∷ 10 ∷ []) ≡ some 5
+  pub fallen-whole : lateAfter 5 fallen (15 ∷ []) ≡ some 15
+  pub within-cut : lateAfter 15 fallenWithin (5 ∷ 10 ∷ []) ≡ some 15
+  pub within-whole : lateAfter 15 fallenWithin (15 ∷ []) ≡ some 25
+  -- where somebody is overdue and there is no late tick, an idle of 0 finds it
+  pub overdue-found : (overdueUnknown .late ≡ none) × (lateAfter 5 overdueUnknown (0 ∷ []) ≡ some 5)
 
 pub idle-rows : IdleRows
 unfolding computing withEvents sameTable replace
@@ -101,9 +107,9 @@ idle-rows =
       cut-at-nine = refl;
       cut-at-ten = refl;
       cut-at-eight = refl;
-      none-first = refl;
+      zero-first = refl;
       in-three = refl;
-      none-early = refl;
+      zero-early = refl;
       one-more = refl;
       answers-one = refl;
       answers-two = refl;
@@ -114,5 +120,7 @@ idle-rows =
       falls = λ never. absurd (omega (arith, never 0 1 10 0 (omega arith) refl refl));
       fallen-cut = refl;
       fallen-whole = refl;
-      overdue-unknown = (refl, refl);
+      within-cut = refl;
+      within-whole = refl;
+      overdue-found = (refl, refl);
     }

@@ -1,6 +1,6 @@
--- Some events of a kit replaced by others: up to them the play is the same; behind them it is the same, if from there the two stretches leave
--- the same room; and the kit with the others is a good kit if they are good events and not too many. Assumes nothing.
-use mathlib.Core.Path.{_≡_, refl, sym, ap, _∙_}
+-- Some events of a kit replaced by others: up to them the play is the same; behind them it is the same, if the two stretches leave the same room;
+-- and the kit with the others is a good kit if they are good events and not too many. Places are counted from 0. Assumes nothing.
+use mathlib.Core.Path.{_≡_, refl, sym, ap, _∙_, subst}
 use mathlib.Core.Logic.{⊎-elim}
 use mathlib.Core.Option.{Option, none, some}
 use mathlib.Core.List.{List, [], _∷_, _++_}
@@ -10,10 +10,10 @@ use lib.ListN.{length, take, drop, length-append, take-append-drop}
 use lib.Seq.{length-take-le, drop-drop, take-append-le, take-append-add, take-length, drop-append-seam}
 use Rattle.terms.specs.Limits.{replicas, eventsMax}
 use Rattle.terms.specs.Lists.{nth, Sub}
-use Rattle.terms.specs.ListLaws.{no-way, nth-append, nth-app-inv, nth-in, nth-drop, sub-prefix}
+use Rattle.terms.specs.ListLaws.{no-way, nth-append, nth-app-inv, nth-in, nth-drop, nth-behind, sub-prefix}
 use Rattle.terms.specs.Kit.{Kit, Entry, GoodEntry, GoodEntries, GoodKit}
 use Rattle.rules.specs.Table.{isMarkedFaulty, actives}
-use Rattle.rules.specs.Room.{Room, freshRoom, withClock, withLate}
+use Rattle.rules.specs.Room.{Room, freshRoom, withClock}
 use Rattle.rules.specs.Reading.{answered, answeredAt}
 use Rattle.rules.specs.Clock.{overdue, tick}
 use Rattle.rules.specs.Play.{onEvent, step, play, after, answerIn, answer}
@@ -44,11 +44,11 @@ back {kit} i =
       is = rw (i .is, ← i .was);
     }
 
--- the kit with its events from place n on, as many as that, replaced by these
+-- the kit with `many` of its events, from place n on, replaced by `new`
 unfoldable pub replace : ℕ → ℕ → List Entry → Kit → Kit
 replace n many new kit = withEvents kit (take n (kit .events) ++ (new ++ drop (n + many) (kit .events)))
 
--- where `old` stands there
+-- it is such a kit, if `old` stands from place n on
 pub replaced
     : (n : ℕ) (old new : List Entry) (kit : Kit) → n ≤ length (kit .events) → Sub old (drop n (kit .events))
     → Instead n old new kit (replace n (length old) new kit)
@@ -65,13 +65,24 @@ replaced n old new kit l stands =
       is = refl;
     }
 
--- what stands there, event by event
+-- that events stand from a place on, said event by event
 pub stands-none : (l : List Entry) → Sub [] l
 stands-none l i e h = no-way (cc)
 
 pub stands-first : (l : List Entry) (n : ℕ) (e : Entry) (es : List Entry) → nth l n ≡ some e → Sub es (drop (suc n) l) → Sub (e ∷ es) (drop n l)
 stands-first l n e es at rest zero d h = nth-drop n l 0 ∙ ap (nth l) (omega arith) ∙ at ∙ h
 stands-first l n e es at rest (suc i) d h = nth-drop n l (suc i) ∙ ap (nth l) (omega arith) ∙ sym (nth-drop (suc n) l i) ∙ rest i d h
+
+-- every event of a list is such
+abbrev pub Each {ℓ} : (Entry → Type ℓ) → List Entry → Type ℓ
+Each P es = (j : ℕ) (e : Entry) → nth es j ≡ some e → P e
+
+pub each-none {ℓ} : (P : Entry → Type ℓ) → Each P []
+each-none P j e at = no-way (cc)
+
+pub each-first {ℓ} : (P : Entry → Type ℓ) (e : Entry) (es : List Entry) → P e → Each P es → Each P (e ∷ es)
+each-first P e es first rest zero d at = let here : e ≡ d = cc in subst P here first
+each-first P e es first rest (suc j) d at = rest j d at
 
 -- ---- no event and no tick looks at the kit's other events
 
@@ -105,9 +116,6 @@ module _ (kit : Kit) (events : List Entry) where
   after-other : (m : ℕ) → after (withEvents kit events) m ≡ play kit (freshRoom kit) (take m events)
   unfolding after withEvents sameTable freshRoom isMarkedFaulty
   after-other m = play-other (freshRoom kit) (take m events)
-
-nth-behind : (l m : List Entry) (i : ℕ) → nth (l ++ m) (length l + i) ≡ nth m i
-nth-behind l m i = sym (nth-drop (length l) (l ++ m) i) ∙ ap (λ (z : List Entry). nth z i) (drop-append-seam l m)
 
 -- ---- a kit's play, seen from a stretch of its events
 
@@ -151,15 +159,15 @@ module _ {n : ℕ} {old new : List Entry} {kit kit₁ : Kit} (i : Instead n old 
   pub stands-there : (k : ℕ) → nth (kit .events) (n + k) ≡ nth (old ++ i .later) k
   stands-there k = rw (← i .place, i .was) (nth-behind (i .before) (old ++ i .later) k)
 
-  pub room-before : (m : ℕ) → m ≤ n → after kit₁ m ≡ after kit m
-  room-before m l =
+  pub rooms-before : (m : ℕ) → m ≤ n → after kit₁ m ≡ after kit m
+  rooms-before m l =
       let fits : m ≤ length (i .before) = omega (arith, i .place) in
       ap (λ (k : Kit). after k m) (i .is)
       ∙ room-to kit (i .before) new (i .later) m fits
       ∙ sym (ap (λ (k : Kit). after k m) own ∙ room-to kit (i .before) old (i .later) m fits)
 
-  pub answer-before : (m : ℕ) → m < n → answer kit₁ m ≡ answer kit m
-  answer-before m l =
+  pub answers-before : (m : ℕ) → m < n → answer kit₁ m ≡ answer kit m
+  answers-before m l =
       let fits : m < length (i .before) = omega (arith, i .place) in
       ap (λ (k : Kit). answer k m) (i .is)
       ∙ answer-to kit (i .before) new (i .later) m fits
@@ -176,16 +184,16 @@ module _ {n : ℕ} {old new : List Entry} {kit kit₁ : Kit} (i : Instead n old 
     both : play kit (play kit (freshRoom kit) (i .before)) new ≡ play kit (play kit (freshRoom kit) (i .before)) old
     both = rw here same
 
-    pub room-behind : (m : ℕ) → after kit₁ (n + (length new + m)) ≡ after kit (n + (length old + m))
-    room-behind m =
+    pub rooms-behind : (m : ℕ) → after kit₁ (n + (length new + m)) ≡ after kit (n + (length old + m))
+    rooms-behind m =
         rw (← i .place)
         (ap (λ (k : Kit). after k (length (i .before) + (length new + m))) (i .is)
         ∙ room-from kit (i .before) new (i .later) m
         ∙ ap (λ (r : Room). play kit r (take m (i .later))) both
         ∙ sym (ap (λ (k : Kit). after k (length (i .before) + (length old + m))) own ∙ room-from kit (i .before) old (i .later) m))
 
-    pub answer-behind : (m : ℕ) → answer kit₁ (n + (length new + m)) ≡ answer kit (n + (length old + m))
-    answer-behind m =
+    pub answers-behind : (m : ℕ) → answer kit₁ (n + (length new + m)) ≡ answer kit (n + (length old + m))
+    answers-behind m =
         rw (← i .place)
         (ap (λ (k : Kit). answer k (length (i .before) + (length new + m))) (i .is)
         ∙ answer-from kit (i .before) new (i .later) m
@@ -197,6 +205,10 @@ module _ {n : ℕ} {old new : List Entry} {kit kit₁ : Kit} (i : Instead n old 
   pub same-settings : kit₁ ≡ withEvents kit (kit₁ .events)
   unfolding withEvents sameTable
   same-settings = rw (i .is)
+
+  pub same-patience : {low : ℕ} → low ≤ kit .patience → low ≤ kit₁ .patience
+  unfolding withEvents sameTable
+  same-patience l = rw (i .is) l
 
   -- the place is one of its places, or just behind the last
   pub place-within : n ≤ length (kit₁ .events)
@@ -218,9 +230,7 @@ module _ {n : ℕ} {old new : List Entry} {kit kit₁ : Kit} (i : Instead n old 
   stood-behind j e h = rw (i .was, nth-behind (i .before) (old ++ i .later) (length old + j), nth-behind old (i .later) j) h
 
   -- what every event of kit and every new one has, every event of kit₁ has
-  pub instead-each {ℓ}
-      : (P : Entry → Type ℓ) → ((j : ℕ) (e : Entry) → nth (kit .events) j ≡ some e → P e) → ((j : ℕ) (e : Entry) → nth new j ≡ some e → P e)
-      → (j : ℕ) (e : Entry) → nth (kit₁ .events) j ≡ some e → P e
+  pub instead-each {ℓ} : (P : Entry → Type ℓ) → Each P (kit .events) → Each P new → Each P (kit₁ .events)
   unfolding withEvents sameTable
   instead-each P all fresh j e at =
       ⊎-elim (λ h. all j e (stood-before j e h))

@@ -71,7 +71,7 @@ late-stays kit t m n l =
 
 -- ---- the ticks
 
--- none is below an earlier one
+-- ticks that never fall
 abbrev pub NeverFall : List ℕ → Type 0
 NeverFall ticks = (i j t u : ℕ) → i ≤ j → nth ticks i ≡ some t → nth ticks j ≡ some u → t ≤ u
 
