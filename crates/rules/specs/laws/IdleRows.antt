@@ -70,12 +70,12 @@ lateAfter patience r gaps = play (ofPatience patience) r (map idle gaps) .late
 -- ---- the rows
 
 pub record IdleRows : Type 0 where
-  -- twelve ticks in one idle, in two of six, cut one tick and two after the patience is over, where it is over, with an idle of 0 before them, in three
+  -- twelve ticks in one idle, in two of six, cut where the patience is over, one tick and two after that, with an idle of 0 before them, in three
   pub one : afterIdles (12 ∷ []) ≡ (15, some 11)
   pub halves : afterIdles (6 ∷ 6 ∷ []) ≡ (15, some 11)
+  pub cut-at-eight : afterIdles (8 ∷ 4 ∷ []) ≡ (15, some 11)
   pub cut-at-nine : afterIdles (9 ∷ 3 ∷ []) ≡ (15, some 11)
   pub cut-at-ten : afterIdles (10 ∷ 2 ∷ []) ≡ (15, some 11)
-  pub cut-at-eight : afterIdles (8 ∷ 4 ∷ []) ≡ (15, some 11)
   pub zero-first : afterIdles (0 ∷ 12 ∷ []) ≡ (15, some 11)
   pub in-three : afterIdles (4 ∷ 0 ∷ 8 ∷ []) ≡ (15, some 11)
   -- one tick before the patience is over an idle of 0 makes nobody late, and one of 1 does
@@ -104,9 +104,9 @@ idle-rows =
     record {
       one = refl;
       halves = refl;
+      cut-at-eight = refl;
       cut-at-nine = refl;
       cut-at-ten = refl;
-      cut-at-eight = refl;
       zero-first = refl;
       in-three = refl;
       zero-early = refl;
