@@ -1,6 +1,7 @@
 //! What an editor may do to the idle time of a kit (document 02, L9): make two neighbouring idles one, cut one in two, take out an idle of 0 or
 //! put one in. Of the two kits one has an event less; but for that event they play and print the same.
 
+use crate::edit::{after, number, replaced, same_room, ticks_left};
 use crate::kit::{self, Action, Event, Kit, EVENTS, TICKS};
 use crate::play::Room;
 use crate::print::{play_of, INPUT};
@@ -42,13 +43,6 @@ fn idle(gap: u32) -> Event {
     Event { gap, action: Action::Idle }
 }
 
-/// The kit with so many events from a place on replaced by these.
-fn replaced(kit: &Kit, at: usize, many: usize, new: &[Event]) -> Kit {
-    let mut other = kit.clone();
-    other.events.splice(at..at + many, new.iter().cloned());
-    other
-}
-
 // ---- the four edits
 
 /// Two idles, at a place and behind it, made one.
@@ -84,14 +78,13 @@ fn put_in(kit: &Kit, at: usize) -> Pair {
 pub fn edits(kit: &Kit, random: &mut Random) -> Vec<Pair> {
     let places = |good: &dyn Fn(usize) -> bool| (0..kit.events.len()).filter(|&at| good(at)).collect::<Vec<usize>>();
     let is_idle = |at: usize| kit.events[at].action == Action::Idle;
-    let one_of = |places: &[usize], random: &mut Random| (!places.is_empty()).then(|| random.pick(places));
     let mut all = vec![put_in(kit, random.below(kit.events.len() + 1))];
     let cuts = [places(&is_idle), places(&is_idle), late_at(kit).filter(|&at| is_idle(at)).into_iter().collect()];
     for places in cuts {
-        all.extend(one_of(&places, random).map(|at| cut(kit, at, cut_point(kit, at, random))));
+        all.extend(random.one_of(&places).map(|at| cut(kit, at, cut_point(kit, at, random))));
     }
-    all.extend(one_of(&places(&|at| join(kit, at).is_some()), random).and_then(|at| join(kit, at)));
-    all.extend(one_of(&places(&|at| kit.events[at] == idle(0)), random).map(|at| take_out(kit, at)));
+    all.extend(random.one_of(&places(&|at| join(kit, at).is_some())).and_then(|at| join(kit, at)));
+    all.extend(random.one_of(&places(&|at| kit.events[at] == idle(0))).map(|at| take_out(kit, at)));
     if let Some(at) = place_one_tick_before(kit) {
         all.push(put_in(kit, at));
     }
@@ -110,10 +103,7 @@ fn late_at(kit: &Kit) -> Option<usize> {
 /// How many ticks the first part has: any number of them, none, all, or so many that somebody is late just then, or a tick sooner or later.
 fn cut_point(kit: &Kit, at: usize, random: &mut Random) -> u32 {
     let gap = kit.events[at].gap;
-    let room = after(kit, at);
-    let due =
-        room.submitted.iter().find(|&&(request, _)| !room.is_answered(request)).map(|&(_, tick)| tick + u64::from(kit.patience));
-    let until = due.and_then(|due| u32::try_from(due.saturating_sub(room.clock)).ok()).unwrap_or(gap);
+    let until = ticks_left(&after(kit, at)).unwrap_or(gap);
     let any = random.below(gap as usize + 1) as u32;
     random.pick(&[0, gap, any, until, until.saturating_add(1), until.saturating_sub(1)]).min(gap)
 }
@@ -136,21 +126,7 @@ fn place_one_tick_before(kit: &Kit) -> Option<usize> {
     None
 }
 
-/// The room after the first n events.
-fn after(kit: &Kit, n: usize) -> Room<'_> {
-    let mut room = Room::new(kit);
-    for event in &kit.events[..n] {
-        room.step(event);
-    }
-    room
-}
-
 // ---- what is the same
-
-fn same_room(a: &Room, b: &Room) -> bool {
-    (a.clock, a.late, &a.submitted, &a.histories) == (b.clock, b.late, &b.submitted, &b.histories)
-        && (a.filed, &a.counters, &a.replicas) == (b.filed, &b.counters, &b.replicas)
-}
 
 /// The first thing in which the two kits differ though they should not. Tells the cases that it met.
 pub fn check(pair: &Pair, meet: &mut dyn FnMut(&'static str)) -> Result<(), String> {
@@ -185,7 +161,6 @@ pub fn check_long_sums(kit: &Kit, meet: &mut dyn FnMut(&'static str)) -> Result<
 
 /// Both are kits, but where the longer one has an event too many: it is refused with 4.
 fn both_good(pair: &Pair, meet: &mut dyn FnMut(&'static str)) -> Result<bool, String> {
-    let number = |kit: &Kit| kit::read(&kit::bytes(kit)).err().unwrap_or(0);
     match (number(&pair.kit), number(&pair.less)) {
         (0, 0) => Ok(true),
         (4, 0) if pair.kit.events.len() as u32 == EVENTS + 1 => {

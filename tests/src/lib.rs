@@ -2,6 +2,8 @@
 
 pub mod agreement;
 pub mod cases;
+pub mod edit;
+pub mod exchange;
 pub mod generator;
 pub mod idle;
 pub mod kit;

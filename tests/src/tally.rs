@@ -2,6 +2,7 @@
 
 use crate::agreement::Agreement;
 use crate::cases::{after_the_late_tick, clock, limits, refused, taken, Before, CASES};
+use crate::exchange;
 use crate::idle;
 use crate::kit::{self, Kit};
 use crate::play::{Condition, Room};
@@ -12,11 +13,17 @@ const KIT_NUMBERS: [usize; 8] = [0, 1, 2, 3, 4, 5, 6, 9];
 const ANSWERS: [usize; 15] = [0, 11, 12, 13, 14, 15, 16, 17, 18, 19, 20, 21, 22, 23, 24];
 const CONDITIONS: [Condition; 4] = [Condition::Running, Condition::Halted, Condition::Closed, Condition::Faulty];
 
+/// Every case that a run has to meet.
+fn all_cases() -> impl Iterator<Item = &'static str> {
+    CASES.iter().chain(idle::CASES).chain(exchange::CASES).copied()
+}
+
 #[derive(Default)]
 pub struct Tally {
     pub kits: u64,
     pub events: u64,
     pub edits: u64,
+    pub exchanges: u64,
     kit_numbers: [u64; 10],
     answers: [u64; 25],
     conditions: [u64; 4],
@@ -79,23 +86,31 @@ impl Tally {
         idle::check_long_sums(kit, &mut |case| *self.cases.entry(case).or_insert(0) += 1)
     }
 
+    /// Counts an exchange of two deliveries. Gives the first thing in which the two kits differ though they should not, if there is one.
+    pub fn exchanged(&mut self, pair: &exchange::Pair) -> Result<(), String> {
+        self.exchanges += 1;
+        exchange::check(pair, &mut |case| *self.cases.entry(case).or_insert(0) += 1)
+    }
+
     fn rows(&self) -> Vec<(String, u64)> {
         let kits = KIT_NUMBERS.iter().map(|&n| (format!("kit {n}"), self.kit_numbers[n]));
         let answers = ANSWERS.iter().map(|&n| (format!("answer {n}"), self.answers[n]));
         let conditions = CONDITIONS.iter().map(|&c| (format!("condition {c:?}").to_lowercase(), self.conditions[c as usize]));
-        let cases = CASES.iter().chain(idle::CASES).map(|&c| (c.to_string(), self.cases.get(c).copied().unwrap_or(0)));
+        let cases = all_cases().map(|c| (c.to_string(), self.cases.get(c).copied().unwrap_or(0)));
         kits.chain(answers).chain(conditions).chain(cases).collect()
     }
 
     /// What was never met.
     pub fn missing(&self) -> Vec<String> {
-        assert!(self.cases.keys().all(|c| CASES.contains(c) || idle::CASES.contains(c)), "a case that is not listed");
+        assert!(self.cases.keys().all(|&case| all_cases().any(|c| c == case)), "a case that is not listed");
         self.rows().into_iter().filter(|row| row.1 == 0).map(|row| row.0).collect()
     }
 
     pub fn report(&self) -> String {
         let mut out = String::new();
-        writeln!(out, "{} kits, {} events, {} edits of idle time", self.kits, self.events, self.edits).unwrap();
+        let Tally { kits, events, edits, exchanges, .. } = self;
+        writeln!(out, "{kits} kits, {events} events, {edits} edits of idle time, {exchanges} exchanges of two deliveries")
+            .unwrap();
         for (name, count) in self.rows() {
             writeln!(out, "{count:>10}  {name}").unwrap();
         }

@@ -1,5 +1,6 @@
 //! The lesson kits: each is what its text says, prints what stands beside it, and teaches what its page says.
 
+use model::exchange::{check, Pair};
 use model::idle::without_line;
 use model::kit::{bytes, read, Action, Event, Kit};
 use model::play::Room;
@@ -8,10 +9,10 @@ use model::text_form;
 use std::fs;
 use std::path::PathBuf;
 
-const LESSONS: [&str; 5] = ["clean", "late", "switch", "faulty-leader", "faulty-switch-leader"];
+const LESSONS: [&str; 6] = ["clean", "late", "order", "switch", "faulty-leader", "faulty-switch-leader"];
 
-/// Kits that the page of `late` shows beside its own.
-const BESIDE: [&str; 2] = ["late-panic", "late-without-gaps"];
+/// Kits that the pages of `late` and `order` show beside their own.
+const BESIDE: [&str; 4] = ["late-panic", "late-without-gaps", "order-2-3", "order-4-5"];
 
 fn file(name: &str, kind: &str) -> Vec<u8> {
     let path = PathBuf::from(env!("CARGO_MANIFEST_DIR")).join("../kits/lessons").join(format!("{name}.{kind}"));
@@ -94,4 +95,21 @@ fn a_pause_may_be_cut() {
         cut.events.insert(3, Event { gap: 6 - part, action: Action::Idle });
         assert_eq!(without_line(&play_of(&cut), cut.events.len(), 2), text("late", "play"));
     }
+}
+
+/// In `order` events 2 and 3 change places and nothing else does; events 4 and 5 do not: the UPDATE of event 5 is issued by event 4.
+#[test]
+fn two_deliveries_change_places() {
+    let pair = |first: usize| Pair::new(kit("order"), first - 1, false);
+    for first in [2, 6] {
+        let mut met = Vec::new();
+        assert_eq!(check(&pair(first), &mut |case| met.push(case)), Ok(()));
+        assert!(met.contains(&"deliveries: both taken"), "event {first}: {met:?}");
+        assert_eq!(play_of(&pair(first).exchanged), text("order", "play"));
+    }
+    assert_eq!(bytes(&pair(2).exchanged), file("order-2-3", "kit"));
+    assert_eq!(bytes(&pair(4).exchanged), file("order-4-5", "kit"));
+    let (one, other) = (text("order", "play"), text("order-4-5", "play"));
+    let differ: Vec<_> = one.lines().zip(other.lines()).filter(|(a, b)| a != b).collect();
+    assert_eq!(differ, [("4 5 0", "4 5 15"), ("replica 3 running 1 7 7", "replica 3 running 0 0")]);
 }

@@ -2,6 +2,7 @@
 
 mod common;
 use common::{after, answers, kit, last, number, FIVE, THREE};
+use model::exchange::{self, exchanges, with_answers_exchanged};
 use model::generator::protocol;
 use model::idle::{check, edits, without_line};
 use model::kit::{of_numbers, Action, Content, Kit, TICKS};
@@ -249,6 +250,83 @@ fn l9_edited_kits_play_the_same() {
         let kit = protocol::kit(&mut random);
         for pair in edits(&kit, &mut random) {
             assert_eq!(check(&pair, &mut |_| ()), Ok(()), "{} at place {} of kit {seed}", pair.edit, pair.at);
+        }
+    }
+}
+
+/// The answers of a kit and of the one with its last two events exchanged, and what the check of L11 says of the two.
+fn both_orders(settings: &str, events: &str) -> ([Vec<u32>; 2], Result<(), String>) {
+    let kit = kit(settings, events);
+    let at = kit.events.len() - 2;
+    let pair = exchange::Pair::new(kit, at, false);
+    let answers = [&pair.kit, &pair.exchanged].map(|kit| {
+        let mut room = Room::new(kit);
+        kit.events.iter().map(|event| room.step(event)).collect()
+    });
+    (answers, exchange::check(&pair, &mut |_| ()))
+}
+
+/// The last two deliveries and their answers change places, and nothing else that is printed.
+#[test]
+fn l11_the_answers_go_with_the_deliveries() {
+    let (answers, verdict) = both_orders(THREE, "0 1 7 / 3 3 0 0 1 1 / 0 3 0 0 1 2");
+    assert_eq!((answers, verdict), ([vec![0, 0, 20], vec![0, 20, 0]], Ok(())));
+    let text = |two: &str| play_of(&kit(THREE, &format!("0 1 7 / {two} / 7 1 7")));
+    let (one, other) = (text("3 3 0 0 1 1 / 0 3 0 0 1 2"), text("3 3 0 0 1 2 / 0 3 0 0 1 1"));
+    assert!(one.starts_with("1 0 0\n2 3 0\n3 3 20\n4 10 11\nreplica 0"));
+    assert!(other.starts_with("1 0 0\n2 3 20\n3 3 0\n4 10 11\nreplica 0"));
+    assert_eq!(with_answers_exchanged(&one, 1), other);
+    assert_eq!(with_answers_exchanged(&other, 1), one);
+}
+
+/// Lateness strikes at the first of the two, whichever it is; also where the two answer the request.
+#[test]
+fn l11_late_at_the_first_of_the_two() {
+    for two in ["12 3 0 0 1 1 / 0 3 0 0 1 2", "12 3 0 0 1 2 / 0 3 0 0 1 1"] {
+        let events = format!("0 1 7 / {two}");
+        assert_eq!(both_orders(FIVE, &events), ([vec![0; 3], vec![0; 3]], Ok(())));
+        after(FIVE, &events, |room| {
+            assert_eq!((room.clock, room.late), (12, Some(10)));
+            assert_eq!([1, 2].map(|x| room.issued(x, 0, 1)), [Some(Content::Commit(7, 1)); 2]);
+        });
+    }
+    for two in ["10 3 1 0 1 0 / 0 3 1 1 1 2", "10 3 1 1 1 2 / 0 3 1 0 1 0"] {
+        let events = format!("{ONE} / {two}");
+        assert_eq!(both_orders(THREE, &events), ([vec![0; 4], vec![0; 4]], Ok(())));
+        after(THREE, &events, |room| assert_eq!((room.late, room.is_answered(7)), (Some(10), true)));
+    }
+}
+
+/// A certificate that the first of the two issues is not there when the second comes first.
+#[test]
+fn l11_issued_before_either() {
+    let chain = "0 1 7 / 0 3 0 0 1 2 / 0 3 0 0 1 1 / 0 3 1 0 1 2";
+    assert_eq!(both_orders(FIVE, chain), ([vec![0, 0, 0, 0], vec![0, 0, 15, 0]], Ok(())));
+    // to a faulty receiver it is 16, issued or not
+    assert_eq!(both_orders(PASSIVE, "0 1 7 / 0 3 0 0 1 1 / 0 3 1 1 1 2"), ([vec![0, 0, 16], vec![0, 16, 0]], Ok(())));
+}
+
+/// What L11 does not speak of: the same receiver, and a gap between the two.
+#[test]
+fn l11_where_the_order_shows() {
+    let silent = Err("no two deliveries to exchange".to_string());
+    let same = "0 1 7 / 0 1 5 / 0 3 0 0 1 1 / 0 3 0 0 2 1";
+    assert_eq!(both_orders(THREE, same), ([vec![0; 4], vec![0, 0, 19, 0]], silent.clone()));
+    // the leader's UPDATE answers request 7 at tick 9, or at tick 10, when it is late
+    let apart = |two: &str| format!("{ONE} / {two}");
+    let (soon, late) = (apart("9 3 1 0 1 0 / 1 3 1 1 1 2"), apart("9 3 1 1 1 2 / 1 3 1 0 1 0"));
+    assert_eq!(both_orders(THREE, &soon), ([vec![0; 4], vec![0; 4]], silent));
+    assert_eq!([soon, late].map(|events| after(THREE, &events, |room| room.late)), [None, Some(10)]);
+}
+
+/// Deliveries exchanged, on kits that know the protocol: every room, every answer and the printed play.
+#[test]
+fn l11_exchanged_kits_play_the_same() {
+    for seed in 0..200 {
+        let mut random = Random::new(seed);
+        let kit = protocol::kit(&mut random);
+        for pair in exchanges(&kit, &mut random) {
+            assert_eq!(exchange::check(&pair, &mut |_| ()), Ok(()), "at place {} of kit {seed}", pair.at);
         }
     }
 }

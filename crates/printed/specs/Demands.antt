@@ -1,4 +1,4 @@
--- The three demands on one page, over the bytes of an accepted kit, and what an editor may do to it. Assumes nothing.
+-- The three demands on one page, over the bytes of an accepted kit, what an editor may do to it, and which deliveries may change places. Assumes nothing.
 use mathlib.Core.Path.{_≡_, refl, _∙_}
 use mathlib.Core.Bool.{true}
 use mathlib.Core.Logic.{_⊎_, inl, inr}
@@ -31,7 +31,8 @@ use Rattle.printing.specs.Lines.{kitLine}
 use Rattle.printing.specs.PlayText.{playText}
 use Rattle.printed.specs.Printed.{printedText}
 use Rattle.printed.specs.Theorem.{first-stage, is-fresh, play-printed}
-use Rattle.printed.specs.Edits.{EditorMay, editor-may}
+use Rattle.printed.specs.Edits.{bytesOf, EditorMay, editor-may}
+use Rattle.printed.specs.Exchanges.{OrderIsFree, order-is-free}
 
 -- an event's number is 0, or 11 to 24
 abbrev pub EventNumber : ℕ → Type 0
@@ -80,6 +81,8 @@ pub record Demands (bytes : List ℕ) (kit : Kit) : Type 0 where
   pub agree : SettledListsAgree kit
   -- what an editor may do: join idles, cut one, take out an idle of 0 or put one in (`bytesOf kit` there is `bytes`, by `spells`)
   pub editor : EditorMay kit
+  -- two simultaneous deliveries to different receivers may be exchanged, if both certificates were issued before
+  pub order : OrderIsFree kit
 
 refused-ticks : (kit : Kit) (n : ℕ) (e : Entry) → nth (kit .events) n ≡ some e → (step kit (after kit n) e .answer ≡ Answer.Taken → ⊥)
     → after kit (suc n) ≡ tick kit (after kit n) (e .gap)
@@ -90,6 +93,7 @@ unfolding answer
 demands bytes are e =
     let kit = kitOf bytes in
     let s = accepted-spells bytes are e in
+    let spelled : Spells (bytesOf kit) kit = record { good = s .good; words = s .words; same = refl } in
     record {
       spells = s;
       answers = λ n h. let at = nth-in (kit .events) n h in
@@ -99,7 +103,8 @@ demands bytes are e =
       shows = λ n fits. player-shows bytes kit s n fits (first-stage bytes kit s) (is-fresh bytes kit s);
       prints = play-printed bytes kit s;
       agree = settled-lists-agree kit (s .good);
-      editor = editor-may kit (record { good = s .good; words = s .words; same = refl });
+      editor = editor-may kit spelled;
+      order = order-is-free kit spelled;
     }
 
 -- a refused kit prints its number and nothing is played

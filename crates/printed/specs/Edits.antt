@@ -47,13 +47,13 @@ apart {n} {kit} {kit₁} i s s₁ =
 
 -- ---- the edited kit has a spelling
 
-abbrev EntryWords : Entry → Type 0
+abbrev pub EntryWords : Entry → Type 0
 EntryWords e = Words (entryNumbers e)
 
 idle-words : (gap : ℕ) → gap ≤ ticksMax → EntryWords (idle gap)
 idle-words gap few = words-cons gap (6 ∷ []) (omega arith) (words-cons 6 [] (omega arith) (λ i n at. no-way (cc)))
 
-instead-words
+pub instead-words
     : {n : ℕ} {old new : List Entry} {kit kit₁ : Kit} → Instead n old new kit kit₁ → Words (kitNumbers kit) → EventWords new
     → length (kit₁ .events) ≤ eventsMax → Words (kitNumbers kit₁)
 unfolding withEvents sameTable

@@ -2,4 +2,5 @@ pub mod Printed
 pub mod PrintedLaws
 pub mod Theorem
 pub mod Edits
+pub mod Exchanges
 pub mod Demands

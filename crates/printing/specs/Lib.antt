@@ -5,3 +5,4 @@ pub mod PlayText
 pub mod PlayTextLaws
 pub mod Whole
 pub mod Without
+pub mod Exchanged

@@ -53,7 +53,7 @@ text-with kit n l =
 -- ---- the kit with one idle less
 
 -- what is said of a room goes by the settings
-room-same : (kit : Kit) (events : List Entry) (r : Room) → roomSaid (withEvents kit events) r ≡ roomSaid kit r
+pub room-same : (kit : Kit) (events : List Entry) (r : Room) → roomSaid (withEvents kit events) r ≡ roomSaid kit r
 unfolding withEvents sameTable roomSaid replicaSaid settled settledNoted settledCount isActive actives
 room-same kit events r = refl
 

@@ -28,6 +28,8 @@ use Rattle.rules.specs.laws.Halting.{TakenPanic, halts-by-panic}
 use Rattle.rules.specs.laws.Patience.{withPatience, ButLate, patience-room, patience-answer}
 use Rattle.rules.specs.laws.Idle.{idle, idle-joined-after, idle-zero}
 use Rattle.rules.specs.laws.IdleEdits.{OneIdleLess, PlaysWithout, plays-without, GoodTogether, good-together}
+use Rattle.rules.specs.laws.Order.{Delivery, isIssued, OrderFree, order-free}
+use Rattle.rules.specs.laws.Exchange.{Exchanged, PlaysExchanged, plays-exchanged, exchanged-good}
 use Rattle.rules.specs.agreement.Bounds.{Bounds, bounds, settles-one}
 
 pub record FirstLaws (kit : Kit) : Type 0 where
@@ -62,6 +64,14 @@ pub record FirstLaws (kit : Kit) : Type 0 where
   pub idle-less : (n : ℕ) (kit₁ : Kit) → 1 ≤ kit .patience → OneIdleLess n kit kit₁ → PlaysWithout n kit kit₁
   -- and both are good kits or neither is, but for the count of events
   pub idle-good : (n : ℕ) (kit₁ : Kit) → OneIdleLess n kit kit₁ → GoodTogether kit kit₁
+  -- two deliveries at one tick, to different receivers, of certificates that were issued before either: their order does not matter
+  pub order
+      : (n gap : ℕ) (a b : Delivery) → a .to ≢ b .to → isIssued (after kit n) a ≡ true → isIssued (after kit n) b ≡ true
+      → OrderFree kit (after kit n) gap a b
+  -- with two such deliveries from place n on exchanged: all rooms before and after them are the same, and each answer goes with its event
+  pub exchange : (n : ℕ) (kit₁ : Kit) → Exchanged n kit kit₁ → PlaysExchanged n kit kit₁
+  -- and it is a good kit
+  pub exchange-good : (n : ℕ) (kit₁ : Kit) → Exchanged n kit kit₁ → GoodKit kit → GoodKit kit₁
   -- an answered request stays answered
   pub answers : (m n : ℕ) → m ≤ n → (request : ℕ) → answered kit (after kit m) request ≡ true → answered kit (after kit n) request ≡ true
   -- event 7 is taken at most once
@@ -92,6 +102,9 @@ first-laws kit =
       idle-zero = idle-zero kit;
       idle-less = λ n kit₁ low i. plays-without low i;
       idle-good = λ n kit₁ i. good-together i;
+      order = λ n. order-free kit (after kit n);
+      exchange = λ n kit₁ x. plays-exchanged x;
+      exchange-good = λ n kit₁ x. exchanged-good x;
       answers = answered-after kit;
       built-once = build-once kit;
     }

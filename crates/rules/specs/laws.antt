@@ -18,3 +18,7 @@ pub mod Idle
 pub mod Instead
 pub mod IdleEdits
 pub mod IdleRows
+pub mod Own
+pub mod Order
+pub mod Exchange
+pub mod ExchangeRows

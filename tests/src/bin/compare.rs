@@ -2,10 +2,12 @@
 //!
 //! Held against the model: the programs that KITPLAY and KITROOM name (or --kitplay PATH, --kitroom PATH), on every M-th kit
 //! (--every M), and, built with the feature `library`, the library. Every kit is also checked for demand 3 at every moment, and, with its idle
-//! time cut, joined, and an idle of 0 put in and taken out, for what L9 says of the two kits; one of these is then played like the others.
+//! time cut, joined, and an idle of 0 put in and taken out, for what L9 says of the two kits, and with two deliveries exchanged for what L11 says;
+//! one kit of each is then played like the others.
 //! --from NUMBER starts at that kit. A kit on which two differ is made as short as it can be and put into target/differences.
 //! The report counts what was met; a run that did not meet everything fails.
 
+use model::exchange;
 use model::generator;
 use model::idle;
 use model::kit::{self, Kit};
@@ -58,16 +60,18 @@ fn main() -> ExitCode {
         }
     };
     let fixed = if options.from == 0 { generator::fixed() } else { Vec::new() };
-    let mut run = Run { options, tally: Tally::default(), differences: 0, breaches: 0, breaches_of_l9: 0 };
+    let mut run = Run { options, tally: Tally::default(), differences: 0, breaches: 0, breaches_of_l9: 0, breaches_of_l11: 0 };
     for (i, bytes) in fixed.iter().enumerate() {
         run.take(format!("fixed-{i}"), bytes, i as u64);
         run.edit(format!("fixed-{i}"), bytes, i as u64);
+        run.exchange(format!("fixed-{i}"), bytes, i as u64);
     }
     for number in run.options.from..run.options.from + run.options.kits {
         let (seed, bytes) = (run.options.seed, generator::kit_bytes(run.options.seed, number));
         run.count(&format!("{seed}-{number}"), &bytes);
         run.take(format!("{seed}-{number}"), &bytes, number);
         run.edit(format!("{seed}-{number}"), &bytes, number);
+        run.exchange(format!("{seed}-{number}"), &bytes, number);
     }
     run.verdict(fixed.len())
 }
@@ -78,6 +82,7 @@ struct Run {
     differences: usize,
     breaches: usize,
     breaches_of_l9: usize,
+    breaches_of_l11: usize,
 }
 
 impl Run {
@@ -122,6 +127,24 @@ impl Run {
         self.take(format!("{name}-edited"), &made[random.below(made.len())], number);
     }
 
+    /// Exchanges two deliveries of the kit, one of them put in or none: the two kits are to play alike. One such kit is then taken as the others are.
+    fn exchange(&mut self, name: String, bytes: &[u8], number: u64) {
+        let Ok(kit) = kit::read(bytes) else { return };
+        let mut random = Random::new(self.options.seed.wrapping_mul(0x1_0000_0005).wrapping_add(number));
+        let pairs = exchange::exchanges(&kit, &mut random);
+        for pair in &pairs {
+            if let Err(what) = self.tally.exchanged(pair) {
+                self.breaches_of_l11 += 1;
+                let two = &pair.kit.events[pair.at..pair.at + 2];
+                println!("kit {name}, at place {}, {:?} and {:?}: {what}", pair.at, two[0].action, two[1].action);
+            }
+        }
+        if !pairs.is_empty() {
+            let made = kit::bytes(&pairs[random.below(pairs.len())].exchanged);
+            self.take(format!("{name}-exchanged"), &made, number);
+        }
+    }
+
     fn verdict(&self, fixed: usize) -> ExitCode {
         print!("{}", self.tally.report());
         let missing = if self.options.from == 0 { self.tally.missing() } else { Vec::new() };
@@ -129,15 +152,16 @@ impl Run {
             println!("never met: {what}");
         }
         println!(
-            "{fixed} fixed kits and {} others of seed {}: {} differences, {} breaches of demand 3, {} of L9, {} cases not met",
+            "{fixed} fixed kits and {} others of seed {}: {} differences, {} breaches of demand 3, {} of L9, {} of L11, {} cases not met",
             self.tally.kits,
             self.options.seed,
             self.differences,
             self.breaches,
             self.breaches_of_l9,
+            self.breaches_of_l11,
             missing.len()
         );
-        if self.differences + self.breaches + self.breaches_of_l9 + missing.len() == 0 {
+        if self.differences + self.breaches + self.breaches_of_l9 + self.breaches_of_l11 + missing.len() == 0 {
             ExitCode::SUCCESS
         } else {
             ExitCode::FAILURE

@@ -112,7 +112,7 @@ found-none : (late found : Option ℕ) → pick (isSome late) late found ≡ non
 found-none none found e = e
 found-none (some n) found e = no-way (cc)
 
-tick-quiet : (kit : Kit) (r : Room) (gap : ℕ) → Quiet kit (tick kit r gap)
+pub tick-quiet : (kit : Kit) (r : Room) (gap : ℕ) → Quiet kit (tick kit r gap)
 unfolding tick withClock withLate
 tick-quiet kit r gap e =
     let later = withClock r (r .clock + gap) in
@@ -120,7 +120,7 @@ tick-quiet kit r gap e =
 
 module _ (kit : Kit) where
   -- who is not overdue is not made so by more answers at the same clock
-  overdue-kept
+  pub overdue-kept
       : (r r₁ : Room) → r₁ .clock ≡ r .clock → ((q : ℕ) → answered kit r q ≡ true → answered kit r₁ q ≡ true) → (qs ts : List ℕ)
       → overdue kit r qs ts ≡ none → overdue kit r₁ qs ts ≡ none
   overdue-kept r r₁ c a [] ts e = refl

@@ -97,7 +97,7 @@ module _ (kit : Kit) (events : List Entry) where
   unfolding tick
   tick-other r gap = rw (overdue-other (withClock r (r .clock + gap)) _ _)
 
-  step-other : (r : Room) (e : Entry) → step (withEvents kit events) r e ≡ step kit r e
+  pub step-other : (r : Room) (e : Entry) → step (withEvents kit events) r e ≡ step kit r e
   unfolding step withEvents
   step-other r e =
       event-same kit (kit .patience) events (tick (withEvents kit events) r (e .gap)) (e .event) (e .requests)
