@@ -22,7 +22,7 @@ use Rattle.printed.specs.Printed.{printedText}
 use Rattle.printed.specs.Theorem.{play-printed}
 use Rattle.printed.specs.Edits.{bytesOf, EntryWords, instead-words}
 
--- kit₁ is kit with the deliveries at places n and n+1 exchanged: the bytes of both spell good kits, and they play and print the same but for those two
+-- kit₁ is kit with the deliveries at places n and n+1 exchanged: its bytes spell a good kit, and it plays and prints as kit does but for those two
 pub record OneExchange (n : ℕ) (kit kit₁ : Kit) : Type 0 where
   pub spells : Spells (bytesOf kit₁) kit₁
   pub plays : PlaysExchanged n kit kit₁

@@ -29,7 +29,7 @@ use Rattle.rules.specs.laws.Patience.{withPatience, ButLate, patience-ro
 use Rattle.rules.specs.laws.Idle.{idle, idle-joined-after, idle-zero}
 use Rattle.rules.specs.laws.IdleEdits.{OneIdleLess, PlaysWithout, plays-without, GoodTogether, good-together}
 use Rattle.rules.specs.laws.Order.{Delivery, isIssued, OrderFree, order-free}
-use Rattle.rules.specs.laws.Exchange.{Exchanged, PlaysExchanged, plays-exchanged, exchanged-good}
+use Rattle.rules.specs.laws.Exchange.{Exchanged, exchanged-back, PlaysExchanged, plays-exchanged, exchanged-good}
 use Rattle.rules.specs.agreement.Bounds.{Bounds, bounds, settles-one}
 
 pub record FirstLaws (kit : Kit) : Type 0 where
@@ -70,8 +70,8 @@ pub record FirstLaws (kit : Kit) : Type 0 where
       → OrderFree kit (after kit n) gap a b
   -- with two such deliveries from place n on exchanged: all rooms before and after them are the same, and each answer goes with its event
   pub exchange : (n : ℕ) (kit₁ : Kit) → Exchanged n kit kit₁ → PlaysExchanged n kit kit₁
-  -- and it is a good kit
-  pub exchange-good : (n : ℕ) (kit₁ : Kit) → Exchanged n kit kit₁ → GoodKit kit → GoodKit kit₁
+  -- and both are good kits or neither is
+  pub exchange-good : (n : ℕ) (kit₁ : Kit) → Exchanged n kit kit₁ → (GoodKit kit → GoodKit kit₁) × (GoodKit kit₁ → GoodKit kit)
   -- an answered request stays answered
   pub answers : (m n : ℕ) → m ≤ n → (request : ℕ) → answered kit (after kit m) request ≡ true → answered kit (after kit n) request ≡ true
   -- event 7 is taken at most once
@@ -104,7 +104,7 @@ first-laws kit =
       idle-good = λ n kit₁ i. good-together i;
       order = λ n. order-free kit (after kit n);
       exchange = λ n kit₁ x. plays-exchanged x;
-      exchange-good = λ n kit₁ x. exchanged-good x;
+      exchange-good = λ n kit₁ x. (exchanged-good x, exchanged-good (exchanged-back x));
       answers = answered-after kit;
       built-once = build-once kit;
     }

@@ -2,7 +2,8 @@
 -- (Certificates), the clock and its ticks (Time), answered requests (Answered) and the late tick (Lateness), at every moment (Moments); that only
 -- a PANIC halts (Halting); what an event looks at (Settings, LateAside), and so that the patience decides the late tick alone (Patience); idle
 -- time in a room (Idle), a kit with some of its events replaced (Instead), and from both what an editor may do to a kit's idle time (IdleEdits, with
--- IdleRows by computation). FirstLaws has what is true of every kit on one page. Assumes nothing.
+-- IdleRows by computation); what a delivery looks at and what it changes (Own), so that two may come in either order (Order), and a kit with two of its
+-- deliveries exchanged (Exchange, with ExchangeRows by computation). FirstLaws has what is true of every kit on one page. Assumes nothing.
 pub mod Moments
 pub mod Changes
 pub mod Refused

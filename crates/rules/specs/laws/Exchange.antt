@@ -140,7 +140,7 @@ module _ {n : ℕ} {kit kit₁ : Kit} (x : Exchanged n kit kit₁) where
 
 -- ---- the kits
 
--- both are good or neither is
+-- the exchanged kit is good; and so, by `exchanged-back`, is the one that it came of, if the exchanged one is
 pub exchanged-good : {n : ℕ} {kit kit₁ : Kit} → Exchanged n kit kit₁ → GoodKit kit → GoodKit kit₁
 exchanged-good {n} {kit} {kit₁} x good =
     let size = replicas (kit .f) in
