@@ -111,7 +111,7 @@ struct Places {
     neighbours: Vec<usize>,
     /// The next event might be, but delivers what only this one issues.
     chains: Vec<usize>,
-    /// Its receiver settles or closes, or somebody gets late at its tick.
+    /// Its receiver, an active one, settles, or it closes, or somebody gets late at its tick.
     turns: Vec<usize>,
 }
 
@@ -141,8 +141,8 @@ fn places(kit: &Kit) -> Places {
     places
 }
 
-/// Some pairs of a kit, four at most: two neighbours that it has; two of which the first issues what the second delivers; and two pairs that are
-/// made, with any delivery and with one at which a replica settles or closes or somebody gets late.
+/// Some pairs of a kit, four at most: a pair of neighbours that it has; a pair of which the first issues what the second delivers; and two pairs that
+/// are made, with any delivery and with one at which an active replica settles, or one closes, or somebody gets late.
 pub fn exchanges(kit: &Kit, random: &mut Random) -> Vec<Pair> {
     let places = places(kit);
     let found = [random.one_of(&places.neighbours), random.one_of(&places.chains)];
@@ -204,8 +204,9 @@ pub fn check(pair: &Pair, meet: &mut dyn FnMut(&'static str)) -> Result<(), Stri
         return Err("the first certificate is not issued before".to_string());
     }
     if !two[1].is_issued(&room) {
+        chained(pair, two, room, beside)?;
         meet("deliveries: the second certificate is issued by the first");
-        return chained(pair, two, room, beside);
+        return Ok(());
     }
     let before = room.clone();
     let answers = both_orders(pair, &mut room, &mut beside)?;

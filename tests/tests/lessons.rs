@@ -1,5 +1,6 @@
 //! The lesson kits: each is what its text says, prints what stands beside it, and teaches what its page says.
 
+use model::edit::after;
 use model::exchange::{check, Pair};
 use model::idle::without_line;
 use model::kit::{bytes, read, Action, Event, Kit};
@@ -11,8 +12,9 @@ use std::path::PathBuf;
 
 const LESSONS: [&str; 6] = ["clean", "late", "order", "switch", "faulty-leader", "faulty-switch-leader"];
 
-/// Kits that the pages of `late` and `order` show beside their own.
-const BESIDE: [&str; 4] = ["late-panic", "late-without-gaps", "order-2-3", "order-4-5"];
+/// Kits that a page shows beside its own: the page, the kit.
+const BESIDE: [(&str, &str); 4] =
+    [("late", "late-panic"), ("late", "late-without-gaps"), ("order", "order-2-3"), ("order", "order-4-5")];
 
 fn file(name: &str, kind: &str) -> Vec<u8> {
     let path = PathBuf::from(env!("CARGO_MANIFEST_DIR")).join("../kits/lessons").join(format!("{name}.{kind}"));
@@ -29,7 +31,7 @@ fn kit(name: &str) -> Kit {
 
 #[test]
 fn kits_are_what_their_texts_say_and_print_what_stands_beside_them() {
-    for name in LESSONS.into_iter().chain(BESIDE) {
+    for name in LESSONS.into_iter().chain(BESIDE.map(|(_, kit)| kit)) {
         assert_eq!(text_form::bytes(&text(name, "txt")).as_ref(), Ok(&file(name, "kit")), "{name}");
         assert_eq!(kitplay(&file(name, "kit")), text(name, "play"), "{name}");
     }
@@ -38,7 +40,8 @@ fn kits_are_what_their_texts_say_and_print_what_stands_beside_them() {
 #[test]
 fn pages_quote_the_plays() {
     for name in LESSONS {
-        let plays = text(name, "play") + &BESIDE.map(|beside| text(beside, "play")).concat();
+        let beside: String = BESIDE.iter().filter(|(page, _)| *page == name).map(|(_, kit)| text(kit, "play")).collect();
+        let plays = text(name, "play") + &beside;
         let page = text(name, "md");
         let quoted = page.lines().filter_map(|line| line.strip_prefix("    ")).filter(|line| *line != "...");
         for line in quoted {
@@ -97,19 +100,44 @@ fn a_pause_may_be_cut() {
     }
 }
 
-/// In `order` events 2 and 3 change places and nothing else does; events 4 and 5 do not: the UPDATE of event 5 is issued by event 4.
+/// With events 2 and 3 of `order` exchanged, or 6 and 7, the play is the same; with 4 and 5 it is not: what event 5 delivers is issued by event 4.
 #[test]
 fn two_deliveries_change_places() {
-    let pair = |first: usize| Pair::new(kit("order"), first - 1, false);
     for first in [2, 6] {
         let mut met = Vec::new();
-        assert_eq!(check(&pair(first), &mut |case| met.push(case)), Ok(()));
+        assert_eq!(check(&order(first), &mut |case| met.push(case)), Ok(()));
         assert!(met.contains(&"deliveries: both taken"), "event {first}: {met:?}");
-        assert_eq!(play_of(&pair(first).exchanged), text("order", "play"));
+        assert_eq!(play_of(&order(first).exchanged), text("order", "play"));
     }
-    assert_eq!(bytes(&pair(2).exchanged), file("order-2-3", "kit"));
-    assert_eq!(bytes(&pair(4).exchanged), file("order-4-5", "kit"));
+    assert_eq!(bytes(&order(2).exchanged), file("order-2-3", "kit"));
+    assert_eq!(bytes(&order(4).exchanged), file("order-4-5", "kit"));
     let (one, other) = (text("order", "play"), text("order-4-5", "play"));
     let differ: Vec<_> = one.lines().zip(other.lines()).filter(|(a, b)| a != b).collect();
     assert_eq!(differ, [("4 5 0", "4 5 15"), ("replica 3 running 1 7 7", "replica 3 running 0 0")]);
+}
+
+/// Between events 2 and 3 the rooms differ: who has noted the request.
+#[test]
+fn the_room_between_the_two() {
+    let noted = |name: &str| {
+        let kit = kit(name);
+        let room = after(&kit, 2);
+        [1, 2].map(|x| room.replicas[x].noted.clone())
+    };
+    assert_eq!(noted("order"), [vec![7], vec![]]);
+    assert_eq!(noted("order-2-3"), [vec![], vec![7]]);
+}
+
+/// Deliveries at one tick to the same replica: L11 does not speak of them, and in `order` nothing changes.
+#[test]
+fn two_deliveries_to_one_replica() {
+    for first in [9, 11, 12] {
+        assert_eq!(check(&order(first), &mut |_| ()), Err("no two deliveries to exchange".to_string()));
+        assert_eq!(play_of(&order(first).exchanged), text("order", "play"));
+    }
+}
+
+/// The lesson `order`, and the kit with this event, counted from 1, and the next one exchanged.
+fn order(first: usize) -> Pair {
+    Pair::new(kit("order"), first - 1, false)
 }

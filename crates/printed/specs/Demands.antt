@@ -1,4 +1,5 @@
--- The three demands on one page, over the bytes of an accepted kit, what an editor may do to it, and which deliveries may change places. Assumes nothing.
+-- The three demands on one page, over the bytes of an accepted kit, what an editor may do to it, and which two of its
+-- deliveries may change places. Assumes nothing.
 use mathlib.Core.Path.{_≡_, refl, _∙_}
 use mathlib.Core.Bool.{true}
 use mathlib.Core.Logic.{_⊎_, inl, inr}
@@ -81,7 +82,7 @@ pub record Demands (bytes : List ℕ) (kit : Kit) : Type 0 where
   pub agree : SettledListsAgree kit
   -- what an editor may do: join idles, cut one, take out an idle of 0 or put one in (`bytesOf kit` there is `bytes`, by `spells`)
   pub editor : EditorMay kit
-  -- two simultaneous deliveries to different receivers may be exchanged, if both certificates were issued before
+  -- two neighbouring deliveries at one tick, to different receivers, may change places if both certificates were issued before either
   pub order : OrderIsFree kit
 
 refused-ticks : (kit : Kit) (n : ℕ) (e : Entry) → nth (kit .events) n ≡ some e → (step kit (after kit n) e .answer ≡ Answer.Taken → ⊥)

@@ -1,6 +1,6 @@
 -- The printed play of a kit in which two neighbouring events have each the other's answer: the kit with two deliveries exchanged prints this, and if
 -- both have the same answer it prints the same. Places are counted from 0, so that the line of the event at place k has the number k+1. Assumes nothing.
-use mathlib.Core.Path.{_≡_, ap, _∙_}
+use mathlib.Core.Path.{_≡_, ap}
 use mathlib.Core.Logic.{⊎-elim}
 use mathlib.Core.List.{List, _++_}
 use Prim.Native.Nat.{ℕ, suc}
@@ -17,8 +17,8 @@ use Rattle.rules.specs.laws.Instead.{same-settings}
 use Rattle.rules.specs.laws.Exchange.{Exchanged, PlaysExchanged, plays-exchanged, exchanged-count}
 use Rattle.printing.specs.Lines.{eventLine, linesFrom}
 use Rattle.printing.specs.LinesLaws.{lines-ext}
-use Rattle.printing.specs.PlayText.{numberSaid, eventSaid, roomSaid, textAfter, playText}
-use Rattle.printing.specs.Without.{endSaid, room-same}
+use Rattle.printing.specs.PlayText.{numberSaid, eventSaid, textAfter, playText}
+use Rattle.printing.specs.Without.{endSaid, end-same}
 
 -- places n and n+1 exchanged, every other place as it is
 abbrev pub exchangedPlace : ℕ → ℕ → ℕ
@@ -56,12 +56,8 @@ pub text-exchanged : {n : ℕ} {kit kit₁ : Kit} → Exchanged n kit kit₁ →
 unfolding playText textAfter textExchanged
 text-exchanged {n} {kit} {kit₁} x =
     let p = plays-exchanged x in
-    let end : endSaid kit₁ ≡ endSaid kit =
-    ap (λ (k : Kit). roomSaid k (after kit₁ (length (kit₁ .events)))) (same-settings (x .instead))
-    ∙ room-same kit (kit₁ .events) (after kit₁ (length (kit₁ .events)))
-    ∙ ap (roomSaid kit) (p .room-last) in
     let lines = lines-ext (length (kit₁ .events)) 0 (eventSaid kit₁) (exchangedSaid n kit) (λ k h. said-exchanged p k) in
-    rw (lines, end, exchanged-count x)
+    rw (lines, end-same kit kit₁ (same-settings (x .instead)) (p .room-last), exchanged-count x)
 
 -- two events with the same answer: nothing of the printed play differs
 said-same : (n : ℕ) (kit : Kit) → answer kit n ≡ answer kit (suc n) → (k : ℕ) → exchangedSaid n kit k ≡ eventSaid kit k

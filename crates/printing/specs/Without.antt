@@ -53,9 +53,17 @@ text-with kit n l =
 -- ---- the kit with one idle less
 
 -- what is said of a room goes by the settings
-pub room-same : (kit : Kit) (events : List Entry) (r : Room) → roomSaid (withEvents kit events) r ≡ roomSaid kit r
+room-same : (kit : Kit) (events : List Entry) (r : Room) → roomSaid (withEvents kit events) r ≡ roomSaid kit r
 unfolding withEvents sameTable roomSaid replicaSaid settled settledNoted settledCount isActive actives
 room-same kit events r = refl
+
+pub end-same
+    : (kit kit₁ : Kit) → kit₁ ≡ withEvents kit (kit₁ .events) → after kit₁ (length (kit₁ .events)) ≡ after kit (length (kit .events))
+    → endSaid kit₁ ≡ endSaid kit
+end-same kit kit₁ settings last =
+    ap (λ (k : Kit). roomSaid k (after kit₁ (length (kit₁ .events)))) settings
+    ∙ room-same kit (kit₁ .events) (after kit₁ (length (kit₁ .events)))
+    ∙ ap (roomSaid kit) last
 
 module _ {n : ℕ} {kit kit₁ : Kit} (p : PlaysWithout n kit kit₁) (o : OneEventLess n kit kit₁) where
   said-before : (k : ℕ) → k < n → eventSaid kit₁ k ≡ eventSaid kit k
@@ -66,19 +74,13 @@ module _ {n : ℕ} {kit kit₁ : Kit} (p : PlaysWithout n kit kit₁) (o : OneEv
   unfolding eventSaid lowered
   said-later k l = rw (p .room-later (suc k) (omega arith), p .answer-later k l)
 
-  end-said : endSaid kit₁ ≡ endSaid kit
-  end-said =
-      ap (λ (k : Kit). roomSaid k (after kit₁ (length (kit₁ .events)))) (o .settings)
-      ∙ room-same kit (kit₁ .events) (after kit₁ (length (kit₁ .events)))
-      ∙ ap (roomSaid kit) (p .room-last)
-
   text-lowered : playText kit₁ ≡ textWithout n kit
   unfolding textWithout
   text-lowered =
       let many : length (kit .events) - suc n ≡ length (kit₁ .events) - n = omega (arith, o .count) in
       let before = lines-ext n 0 (eventSaid kit₁) (eventSaid kit) (λ k h. said-before k (omega arith)) in
       let later = lines-higher (length (kit₁ .events) - n) n (eventSaid kit₁) (lowered kit) said-later in
-      text-at kit₁ n (omega (arith, o .count, o .place)) ∙ rw (many, before, later, end-said)
+      text-at kit₁ n (omega (arith, o .count, o .place)) ∙ rw (many, before, later, end-same kit kit₁ (o .settings) (p .room-last))
 
 pub text-without : {n : ℕ} {kit kit₁ : Kit} → 1 ≤ kit .patience → OneIdleLess n kit kit₁ → playText kit₁ ≡ textWithout n kit
 text-without low i = text-lowered (plays-without low i) (one-event-less i)

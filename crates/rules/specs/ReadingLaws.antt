@@ -16,8 +16,8 @@ use Rattle.terms.specs.declared.Content.the-variants.{Prepare, Commit, Update, 
 use Rattle.terms.specs.declared.Condition.{Condition}
 use Rattle.terms.specs.declared.Condition.the-variants.{Running, Halted, Closed, Faulty}
 use Rattle.rules.specs.Table.{ag, up, isActive, actives}
-use Rattle.rules.specs.Room.{Replica}
-use Rattle.rules.specs.Reading.{isRunning, isClosed, isFaulty, sameContent, isContent, valueSeen, settledCount, settledNoted}
+use Rattle.rules.specs.Room.{Replica, Room}
+use Rattle.rules.specs.Reading.{isRunning, isClosed, isFaulty, sameContent, isContent, valueSeen, settledCount, settledNoted, heldList}
 
 -- ---- conditions
 
@@ -144,3 +144,10 @@ unfolding settledNoted
 settledNoted-rises kit x p p₁ n n₁ s l i a e =
     let h = nth-take (settledCount kit x p n) (p .noted) i e in
     take-nth (settledCount kit x p₁ n₁) (p₁ .noted) i (omega arith) (s i a (h .1))
+
+-- ---- the list of a held history goes by the histories
+
+pub held-same : (r r₁ : Room) → r₁ .histories ≡ r .histories → (held : Option ℕ) → heldList r₁ held ≡ heldList r held
+unfolding heldList
+held-same r r₁ e none = refl
+held-same r r₁ e (some h) = rw e

@@ -1,15 +1,28 @@
 -- Laws of Room: what is read back after one part of a room or of a record is made anew. Assumes nothing.
-use mathlib.Core.Path.{_≡_}
-use mathlib.Core.Bool.{_&&_, and-false}
+use mathlib.Core.Path.{_≡_, sym, _∙_, fun-ext}
+use mathlib.Core.Bool.{false, _&&_, and-false}
 use mathlib.Core.Logic.{_≢_}
 use mathlib.Core.List.{[], _∷_, _++_}
 use Prim.Native.Nat.{ℕ, suc, _≤_}
 use native.Mathlib.Omega.{arith}
 use lib.Dec.{eqb}
 use borrow.Author.Tests.{eqb-true, eq-eqb, ne-eqb}
-use Rattle.terms.specs.ListLaws.{eqb-same, and-l, and-r, pick-elim}
+use Rattle.terms.specs.ListLaws.{split, eqb-same, and-l, and-r, pick-elim}
 use Rattle.terms.specs.declared.Content.{Content}
-use Rattle.rules.specs.Room.{Room, Replica, put2, withReplica, issue}
+use Rattle.rules.specs.Room.{Room, Replica, put1, put2, withReplica, issue}
+
+-- ---- one value of a function anew
+
+module _ {A : Type 0} (g : ℕ → A) where
+  pub put-back : (x : ℕ) → put1 g x (g x) ≡ g
+  put-back x = fun-ext (λ y. split (eqb y x) (λ e. rw (e, eqb-true y x e)) (λ e. rw e))
+
+  pub put-again : (x : ℕ) (a b : A) → put1 (put1 g x a) x b ≡ put1 g x b
+  put-again x a b = fun-ext (λ y. split (eqb y x) (λ e. rw e) (λ e. rw e))
+
+  pub put-apart : (x y : ℕ) (a b : A) → x ≢ y → put1 (put1 g x a) y b ≡ put1 (put1 g y b) x a
+  put-apart x y a b d =
+      fun-ext (λ z. split (eqb z y) (λ e. let n : eqb z x ≡ false = ne-eqb z x (λ q. d (sym q ∙ eqb-true z y e)) in rw (e, n)) (λ e. rw e))
 
 -- ---- records and counters of a room
 

@@ -127,7 +127,8 @@ impl Run {
         self.take(format!("{name}-edited"), &made[random.below(made.len())], number);
     }
 
-    /// Exchanges two deliveries of the kit, one of them put in or none: the two kits are to play alike. One such kit is then taken as the others are.
+    /// Exchanges two deliveries of the kit, one of them put in or none: the two kits are to play alike, but where the first issues what the second
+    /// delivers: there the second is to be refused when it comes first. One such kit is then taken as the others are.
     fn exchange(&mut self, name: String, bytes: &[u8], number: u64) {
         let Ok(kit) = kit::read(bytes) else { return };
         let mut random = Random::new(self.options.seed.wrapping_mul(0x1_0000_0005).wrapping_add(number));

@@ -8,7 +8,7 @@ use mathlib.Core.Option.{some}
 use mathlib.Core.List.{List, [], _∷_}
 use Prim.Native.Nat.{ℕ, suc, _+_, _-_, _≤_, _<_}
 use native.Mathlib.Omega.{arith}
-use lib.ListN.{length, drop}
+use lib.ListN.{length}
 use Rattle.terms.specs.Limits.{replicas}
 use Rattle.terms.specs.Lists.{nth}
 use Rattle.terms.specs.ListLaws.{nth-lt}
@@ -17,7 +17,7 @@ use Rattle.rules.specs.Room.{Room}
 use Rattle.rules.specs.Play.{step, play, after, answer}
 use Rattle.rules.specs.Growth.{after-suc}
 use Rattle.rules.specs.laws.Time.{step-clock, step-late}
-use Rattle.rules.specs.laws.Instead.{Instead, back, replace, replaced, stands-none, stands-first, stands-there, each-none, each-first, step-other, same-settings, rooms-before, answers-before, rooms-behind, answers-behind, instead-length, instead-good}
+use Rattle.rules.specs.laws.Instead.{Instead, back, replace, replaced, stands-two, first-stands, second-stands, each-none, each-first, step-other, same-settings, rooms-before, answers-before, rooms-behind, answers-behind, instead-length, instead-good}
 use Rattle.rules.specs.laws.Order.{Delivery, delivery, isIssued, OrderFree, order-free}
 
 -- kit₁ is kit with the deliveries at places n and n+1 exchanged
@@ -65,24 +65,18 @@ pub record PlaysExchanged (n : ℕ) (kit kit₁ : Kit) : Type 0 where
   pub answer-before : (m : ℕ) → m < n → answer kit₁ m ≡ answer kit m
   pub answer-later : (m : ℕ) → suc n < m → answer kit₁ m ≡ answer kit m
 
--- the events at places n and n+1 of a kit, and what they come to
+-- what the events at places n and n+1 of a kit come to
 module _ {n : ℕ} {kit kit₁ : Kit} {e d : Entry} {new : List Entry} (i : Instead n (e ∷ d ∷ []) new kit kit₁) where
-  pub first-stands : nth (kit .events) n ≡ some e
-  first-stands = ap (nth (kit .events)) (omega arith) ∙ stands-there i 0
-
-  pub second-stands : nth (kit .events) (suc n) ≡ some d
-  second-stands = ap (nth (kit .events)) (omega arith) ∙ stands-there i 1
-
   room-between : after kit (suc n) ≡ step kit (after kit n) e .room
-  room-between = after-suc kit n e first-stands
+  room-between = after-suc kit n e (first-stands i)
 
   answer-one : answer kit n ≡ some (step kit (after kit n) e .answer)
   unfolding answer
-  answer-one = rw first-stands
+  answer-one = rw (first-stands i)
 
   answer-two : answer kit (suc n) ≡ some (step kit (step kit (after kit n) e .room) d .answer)
   unfolding answer
-  answer-two = rw (second-stands, room-between)
+  answer-two = rw (second-stands i, room-between)
 
 module _ {n : ℕ} {kit kit₁ : Kit} (x : Exchanged n kit kit₁) where
   free : OrderFree kit (after kit n) (x .gap) (x .first) (x .second)
@@ -158,8 +152,7 @@ pub exchange
     → a .to ≢ b .to → isIssued (after kit n) a ≡ true → isIssued (after kit n) b ≡ true
     → Exchanged n kit (replace n 2 (delivery gap b ∷ delivery 0 a ∷ []) kit)
 exchange kit n gap a b one two apart a-there b-there =
-    let stand = stands-first (kit .events) n (delivery gap a) (delivery 0 b ∷ []) one
-    (stands-first (kit .events) (suc n) (delivery 0 b) [] two (stands-none (drop (suc (suc n)) (kit .events)))) in
+    let stand = stands-two (kit .events) n (delivery gap a) (delivery 0 b) one two in
     record {
       gap = gap;
       first = a;

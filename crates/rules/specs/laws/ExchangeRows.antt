@@ -27,19 +27,19 @@ abbrev pub cert : ℕ → ℕ → ℕ → ℕ → Delivery
 cert sender name value to = record { sender = sender; name = name; value = value; to = to }
 
 -- 7 is submitted, PREPARE of it is delivered to 1; then these events
-abbrev pub three : List Entry → Kit
-three events = kitOf 1 (1 ∷ 1 ∷ 0 ∷ []) (at 0 (Submit 7) ∷ delivery 0 (cert 0 ag 1 1) ∷ events)
+abbrev pub threeThen : List Entry → Kit
+threeThen events = kitOf 1 (1 ∷ 1 ∷ 0 ∷ []) (at 0 (Submit 7) ∷ delivery 0 (cert 0 ag 1 1) ∷ events)
 
 -- 5 is submitted; 12 ticks later PREPARE of 5 comes to 1, and 1's COMMIT of 7 to 0; then 5 is submitted again
 abbrev pub crossing : Kit
-crossing = three (at 0 (Submit 5) ∷ delivery 12 (cert 0 ag 2 1) ∷ delivery 0 (cert 1 ag 1 0) ∷ at 0 (Submit 5) ∷ [])
+crossing = threeThen (at 0 (Submit 5) ∷ delivery 12 (cert 0 ag 2 1) ∷ delivery 0 (cert 1 ag 1 0) ∷ at 0 (Submit 5) ∷ [])
 
 abbrev pub crossed : Kit
-crossed = three (at 0 (Submit 5) ∷ delivery 12 (cert 1 ag 1 0) ∷ delivery 0 (cert 0 ag 2 1) ∷ at 0 (Submit 5) ∷ [])
+crossed = threeThen (at 0 (Submit 5) ∷ delivery 12 (cert 1 ag 1 0) ∷ delivery 0 (cert 0 ag 2 1) ∷ at 0 (Submit 5) ∷ [])
 
 -- with f = 2: 7 is submitted and PREPARE of it is delivered to 2; then these events
-abbrev pub five : List Entry → Kit
-five events = kitOf 2 (1 ∷ 1 ∷ 1 ∷ 0 ∷ 0 ∷ []) (at 0 (Submit 7) ∷ delivery 0 (cert 0 ag 1 2) ∷ events)
+abbrev pub fiveThen : List Entry → Kit
+fiveThen events = kitOf 2 (1 ∷ 1 ∷ 1 ∷ 0 ∷ 0 ∷ []) (at 0 (Submit 7) ∷ delivery 0 (cert 0 ag 1 2) ∷ events)
 
 crossing-good : GoodKit crossing
 unfolding parse kitNumbers kindOf contentOf
@@ -54,24 +54,24 @@ pub record ExchangeRows : Type 0 where
   pub late-none : (after crossing 3 .late ≡ none) × (after crossed 3 .late ≡ none)
   pub late-first : (after crossing 4 .late ≡ some 10) × (after crossed 4 .late ≡ some 10)
   pub answers-same : (answers crossing 6 ≡ 0 ∷ 0 ∷ 0 ∷ 0 ∷ 0 ∷ 11 ∷ []) × (answers crossed 6 ≡ 0 ∷ 0 ∷ 0 ∷ 0 ∷ 0 ∷ 11 ∷ [])
-  -- the rooms between the two do differ: who came first has issued
+  -- the rooms between the two do differ: the receiver of the first has issued, that of the second has not yet
   pub between : (after crossing 4 .counter 1 ag ≡ Commit 7 1 ∷ Commit 5 2 ∷ []) × (after crossed 4 .counter 1 ag ≡ Commit 7 1 ∷ [])
   -- a refusal goes with its event
   pub one-refused
-      : (answers (three (delivery 0 (cert 1 ag 1 0) ∷ delivery 0 (cert 0 ag 1 2) ∷ [])) 4 ≡ 0 ∷ 0 ∷ 0 ∷ 20 ∷ [])
-      × (answers (three (delivery 0 (cert 0 ag 1 2) ∷ delivery 0 (cert 1 ag 1 0) ∷ [])) 4 ≡ 0 ∷ 0 ∷ 20 ∷ 0 ∷ [])
+      : (answers (threeThen (delivery 0 (cert 1 ag 1 0) ∷ delivery 0 (cert 0 ag 1 2) ∷ [])) 4 ≡ 0 ∷ 0 ∷ 0 ∷ 20 ∷ [])
+      × (answers (threeThen (delivery 0 (cert 0 ag 1 2) ∷ delivery 0 (cert 1 ag 1 0) ∷ [])) 4 ≡ 0 ∷ 0 ∷ 20 ∷ 0 ∷ [])
   -- the second certificate is issued by the first event: 0 0, exchanged 15 0
   pub issued-between
-      : (answers (five (delivery 0 (cert 0 ag 1 1) ∷ delivery 0 (cert 1 ag 1 2) ∷ [])) 4 ≡ 0 ∷ 0 ∷ 0 ∷ 0 ∷ [])
-      × (answers (five (delivery 0 (cert 1 ag 1 2) ∷ delivery 0 (cert 0 ag 1 1) ∷ [])) 4 ≡ 0 ∷ 0 ∷ 15 ∷ 0 ∷ [])
+      : (answers (fiveThen (delivery 0 (cert 0 ag 1 1) ∷ delivery 0 (cert 1 ag 1 2) ∷ [])) 4 ≡ 0 ∷ 0 ∷ 0 ∷ 0 ∷ [])
+      × (answers (fiveThen (delivery 0 (cert 1 ag 1 2) ∷ delivery 0 (cert 0 ag 1 1) ∷ [])) 4 ≡ 0 ∷ 0 ∷ 15 ∷ 0 ∷ [])
   -- both to one receiver: 0 0, exchanged 19 0
   pub one-receiver
-      : (answers (three (at 0 (Submit 5) ∷ delivery 0 (cert 0 ag 2 1) ∷ delivery 0 (cert 1 ag 1 0) ∷ delivery 0 (cert 1 ag 2 0) ∷ [])) 6 ≡ 0 ∷ 0 ∷ 0 ∷ 0 ∷ 0 ∷ 0 ∷ [])
-      × (answers (three (at 0 (Submit 5) ∷ delivery 0 (cert 0 ag 2 1) ∷ delivery 0 (cert 1 ag 2 0) ∷ delivery 0 (cert 1 ag 1 0) ∷ [])) 6 ≡ 0 ∷ 0 ∷ 0 ∷ 0 ∷ 19 ∷ 0 ∷ [])
+      : (answers (threeThen (at 0 (Submit 5) ∷ delivery 0 (cert 0 ag 2 1) ∷ delivery 0 (cert 1 ag 1 0) ∷ delivery 0 (cert 1 ag 2 0) ∷ [])) 6 ≡ 0 ∷ 0 ∷ 0 ∷ 0 ∷ 0 ∷ 0 ∷ [])
+      × (answers (threeThen (at 0 (Submit 5) ∷ delivery 0 (cert 0 ag 2 1) ∷ delivery 0 (cert 1 ag 2 0) ∷ delivery 0 (cert 1 ag 1 0) ∷ [])) 6 ≡ 0 ∷ 0 ∷ 0 ∷ 0 ∷ 19 ∷ 0 ∷ [])
   -- the second has a gap: late none, exchanged late 10
   pub second-gap
-      : (after (three (delivery 9 (cert 1 ag 1 0) ∷ delivery 1 (cert 1 up 1 2) ∷ [])) 4 .late ≡ none)
-      × (after (three (delivery 9 (cert 1 up 1 2) ∷ delivery 1 (cert 1 ag 1 0) ∷ [])) 4 .late ≡ some 10)
+      : (after (threeThen (delivery 9 (cert 1 ag 1 0) ∷ delivery 1 (cert 1 up 1 2) ∷ [])) 4 .late ≡ none)
+      × (after (threeThen (delivery 9 (cert 1 up 1 2) ∷ delivery 1 (cert 1 ag 1 0) ∷ [])) 4 .late ≡ some 10)
 
 pub exchange-rows : ExchangeRows
 unfolding computing withEvents sameTable replace

@@ -9,7 +9,7 @@ use Prim.Native.Nat.{ℕ, zero, suc, _+_, _-_, _≤_, _<_}
 use native.Mathlib.Omega.{arith}
 use lib.ListN.{length, drop}
 use Rattle.terms.specs.Limits.{replicas, ticksMax, eventsMax}
-use Rattle.terms.specs.Lists.{nth, Sub}
+use Rattle.terms.specs.Lists.{nth}
 use Rattle.terms.specs.ListLaws.{nth-lt, same?}
 use Rattle.terms.specs.Kit.{Kit, Entry, GoodEntry, GoodKit}
 use Rattle.terms.specs.declared.Answer.the-variants.{Taken}
@@ -18,7 +18,7 @@ use Rattle.rules.specs.Outcome.{Outcome}
 use Rattle.rules.specs.Play.{onEvent, step, play, after, answer}
 use Rattle.rules.specs.Growth.{after-suc}
 use Rattle.rules.specs.laws.Idle.{idle, idle-joined-after, idle-zero}
-use Rattle.rules.specs.laws.Instead.{withEvents, Instead, back, same-settings, same-patience, each-none, each-first, replace, replaced, stands-none, stands-first, stands-there, rooms-before, answers-before, rooms-behind, answers-behind, place-within, instead-length, instead-good}
+use Rattle.rules.specs.laws.Instead.{withEvents, Instead, back, same-settings, same-patience, each-none, each-first, replace, replaced, stands-none, stands-one, stands-two, first-stands, second-stands, rooms-before, answers-before, rooms-behind, answers-behind, place-within, instead-length, instead-good}
 
 -- kit₁ is kit with one idle less at place n
 pub data OneIdleLess (n : ℕ) (kit kit₁ : Kit) : Type 0 where
@@ -78,16 +78,14 @@ module _ {n : ℕ} {kit kit₁ : Kit} (low : 1 ≤ kit .patience) where
   joined-plays a b i =
       let same = play-joined kit n a b in
       let low₁ : 1 ≤ kit₁ .patience = same-patience i low in
-      let first : nth (kit .events) n ≡ some (idle a) = ap (nth (kit .events)) (omega arith) ∙ stands-there i 0 in
-      let second : nth (kit .events) (suc n) ≡ some (idle b) = ap (nth (kit .events)) (omega arith) ∙ stands-there i 1 in
-      let one : nth (kit₁ .events) n ≡ some (idle (a + b)) = ap (nth (kit₁ .events)) (omega arith) ∙ stands-there (back i) 0 in
-      let both : answer kit₁ n ≡ answer kit (suc n) = idles-at kit₁ low₁ n (a + b) one .taken ∙ sym (idles-at kit low (suc n) b second .taken) in
+      let one = first-stands (back i) in
+      let both : answer kit₁ n ≡ answer kit (suc n) = idles-at kit₁ low₁ n (a + b) one .taken ∙ sym (idles-at kit low (suc n) b (second-stands i) .taken) in
       let count : length (kit .events) ≡ suc (length (kit₁ .events)) = omega (arith, instead-length i) in
       let later : (m : ℕ) → n < m → after kit₁ m ≡ after kit (suc m) =
       λ m l. shifted (after kit) (after kit₁) n 1 (m - suc n) (rooms-behind i same (m - suc n)) m (omega arith) in
       record {
         gap = a;
-        gone = idles-at kit low n a first;
+        gone = idles-at kit low n a (first-stands i);
         room-before = rooms-before i;
         answer-before = answers-before i;
         room-later = λ m l. later m (omega arith);
@@ -100,13 +98,12 @@ module _ {n : ℕ} {kit kit₁ : Kit} (low : 1 ≤ kit .patience) where
   left-out-plays : Instead n (idle 0 ∷ []) [] kit kit₁ → PlaysWithout n kit kit₁
   left-out-plays i =
       let same = play-zero kit low n in
-      let there : nth (kit .events) n ≡ some (idle 0) = ap (nth (kit .events)) (omega arith) ∙ stands-there i 0 in
       let count : length (kit .events) ≡ suc (length (kit₁ .events)) = omega (arith, instead-length i) in
       let later : (m : ℕ) → n ≤ m → after kit₁ m ≡ after kit (suc m) =
       λ m l. shifted (after kit) (after kit₁) n 0 (m - n) (rooms-behind i same (m - n)) m (omega arith) in
       record {
         gap = 0;
-        gone = idles-at kit low n 0 there;
+        gone = idles-at kit low n 0 (first-stands i);
         room-before = rooms-before i;
         answer-before = answers-before i;
         room-later = λ m l. later m (omega arith);
@@ -164,27 +161,23 @@ module _ (kit : Kit) (n : ℕ) where
   inside : (e : Entry) → nth (kit .events) n ≡ some e → n ≤ length (kit .events)
   inside e at = omega (arith, nth-lt (kit .events) n at)
 
-  stands-one : (e : Entry) → nth (kit .events) n ≡ some e → Sub (e ∷ []) (drop n (kit .events))
-  stands-one e at = stands-first (kit .events) n e [] at (stands-none (drop (suc n) (kit .events)))
-
   -- two idles at places n and n+1 made one
   pub join
       : (a b : ℕ) → nth (kit .events) n ≡ some (idle a) → nth (kit .events) (suc n) ≡ some (idle b) → a + b ≤ ticksMax
       → OneIdleLess n kit (replace n 2 (idle (a + b) ∷ []) kit)
   join a b e d few =
-      joined a b few (replaced n (idle a ∷ idle b ∷ []) (idle (a + b) ∷ []) kit (inside (idle a) e)
-      (stands-first (kit .events) n (idle a) (idle b ∷ []) e
-      (stands-first (kit .events) (suc n) (idle b) [] d (stands-none (drop (suc (suc n)) (kit .events))))))
+      joined a b few
+      (replaced n (idle a ∷ idle b ∷ []) (idle (a + b) ∷ []) kit (inside (idle a) e) (stands-two (kit .events) n (idle a) (idle b) e d))
 
   -- an idle at place n cut in two
   pub cut : (a b : ℕ) → nth (kit .events) n ≡ some (idle (a + b)) → a + b ≤ ticksMax → OneIdleLess n (replace n 1 (idle a ∷ idle b ∷ []) kit) kit
   cut a b e few =
       joined a b few
-      (back (replaced n (idle (a + b) ∷ []) (idle a ∷ idle b ∷ []) kit (inside (idle (a + b)) e) (stands-one (idle (a + b)) e)))
+      (back (replaced n (idle (a + b) ∷ []) (idle a ∷ idle b ∷ []) kit (inside (idle (a + b)) e) (stands-one (kit .events) n (idle (a + b)) e)))
 
   -- an idle of 0 at place n taken out
   pub take-out : nth (kit .events) n ≡ some (idle 0) → OneIdleLess n kit (replace n 1 [] kit)
-  take-out e = left-out (replaced n (idle 0 ∷ []) [] kit (inside (idle 0) e) (stands-one (idle 0) e))
+  take-out e = left-out (replaced n (idle 0 ∷ []) [] kit (inside (idle 0) e) (stands-one (kit .events) n (idle 0) e))
 
   -- an idle of 0 put in at place n, which may be behind the last event
   pub put-in : n ≤ length (kit .events) → OneIdleLess n (replace n 0 (idle 0 ∷ []) kit) kit

@@ -73,6 +73,12 @@ pub stands-first : (l : List Entry) (n : ℕ) (e : Entry) (es : List Entry) → 
 stands-first l n e es at rest zero d h = nth-drop n l 0 ∙ ap (nth l) (omega arith) ∙ at ∙ h
 stands-first l n e es at rest (suc i) d h = nth-drop n l (suc i) ∙ ap (nth l) (omega arith) ∙ sym (nth-drop (suc n) l i) ∙ rest i d h
 
+pub stands-one : (l : List Entry) (n : ℕ) (e : Entry) → nth l n ≡ some e → Sub (e ∷ []) (drop n l)
+stands-one l n e at = stands-first l n e [] at (stands-none (drop (suc n) l))
+
+pub stands-two : (l : List Entry) (n : ℕ) (e d : Entry) → nth l n ≡ some e → nth l (suc n) ≡ some d → Sub (e ∷ d ∷ []) (drop n l)
+stands-two l n e d at next = stands-first l n e (d ∷ []) at (stands-one l (suc n) d next)
+
 -- every event of a list is such
 abbrev pub Each {ℓ} : (Entry → Type ℓ) → List Entry → Type ℓ
 Each P es = (j : ℕ) (e : Entry) → nth es j ≡ some e → P e
@@ -256,3 +262,12 @@ module _ {n : ℕ} {old new : List Entry} {kit kit₁ : Kit} (i : Instead n old 
         event-count = rw (i .is) at few;
         events-good = rw (i .is) at entries;
       })
+
+-- ---- the first two events of the stretch
+
+module _ {n : ℕ} {e : Entry} {more new : List Entry} {kit kit₁ : Kit} where
+  pub first-stands : Instead n (e ∷ more) new kit kit₁ → nth (kit .events) n ≡ some e
+  first-stands i = ap (nth (kit .events)) (omega arith) ∙ stands-there i 0
+
+  pub second-stands : {d : Entry} → Instead n (e ∷ d ∷ more) new kit kit₁ → nth (kit .events) (suc n) ≡ some d
+  second-stands i = ap (nth (kit .events)) (omega arith) ∙ stands-there i 1

@@ -16,7 +16,8 @@ use Rattle.terms.specs.declared.Event.the-variants.{Submit, Issue, Deliver, Han
 use Rattle.terms.specs.declared.Answer.{Answer}
 use Rattle.rules.specs.Table.{ag, up, sw, switchLeader}
 use Rattle.rules.specs.Room.{Filing, Replica, Room, withLate, withReplica, withHistory, remember, issue, withCondition, notePair, accept}
-use Rattle.rules.specs.Reading.{isRunning, heldList, contentAt, firstOf, secondOf}
+use Rattle.rules.specs.Reading.{isRunning, contentAt, firstOf, secondOf}
+use Rattle.rules.specs.ReadingLaws.{held-same}
 use Rattle.rules.specs.Outcome.{Outcome, outcome, refuse, taken}
 use Rattle.rules.specs.Submit.{namesUnfiled, afterSubmit, onSubmit, onIssue, onFile}
 use Rattle.rules.specs.Deliver.{settle, expectsPrepare, afterPrepare, afterCommit, onAg, expectsUpdate, afterUpdate, onUp, switches, afterSwitch, onSw, onDeliver}
@@ -77,14 +78,9 @@ module _ (kit : Kit) (late : Option ℕ) (r : Room) where
       (late-or _ _ _ _ (late-taken late (afterUpdate kit r to (accept p sender up value)) _ refl))
       (late-or _ _ _ _ (late-taken late (afterUpdate kit r to (accept (notePair p (firstOf content) (secondOf content)) sender up value)) _ refl))
 
-  held-late : (held : Option ℕ) → heldList (withLate r late) held ≡ heldList r held
-  unfolding heldList withLate
-  held-late none = refl
-  held-late (some h) = refl
-
   late-switch : (to : ℕ) (p : Replica) → afterSwitch kit (withLate r late) to p ≡ withLate (afterSwitch kit r to p) late
   unfolding afterSwitch withLate withReplica
-  late-switch to p = rw (held-late (p .held)) (late-room late (leb (kit .f) (switches kit p)) _ _ _ _ refl refl)
+  late-switch to p = rw (held-same r (withLate r late) refl (p .held)) (late-room late (leb (kit .f) (switches kit p)) _ _ _ _ refl refl)
 
   late-sw : (sender value to : ℕ) (content : Option Content) → onSw kit (withLate r late) sender value to content ≡ lateWith (onSw kit r sender value to content) late
   unfolding withLate onSw

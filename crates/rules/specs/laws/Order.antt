@@ -1,5 +1,5 @@
--- The order of two deliveries to different receivers, of certificates that were issued before either: in every room, whichever comes first, the room
--- after both is the same and each has the same answer, a refusal too. Exchange says it of kits. Assumes nothing.
+-- The order of two deliveries to different receivers, of certificates that were issued before either, the second with gap 0: in every room, whichever
+-- comes first, the room after both is the same and each has the same answer, a refusal too. Exchange says it of kits. Assumes nothing.
 use mathlib.Core.Path.{_≡_, refl, sym, ap, _∙_, subst}
 use mathlib.Core.Bool.{Bool, true, false}
 use mathlib.Core.Logic.{_≢_}

@@ -1,14 +1,12 @@
 -- What is a replica's own in a room: its record and its counters. A delivery looks at its receiver's own, at the content of its certificate, at the
--- submissions and at the histories, and at nothing else; what it changes is its receiver's own. Assumes nothing.
+-- submissions and at the histories, and at nothing else of the room; what it changes is its receiver's own. Assumes nothing.
 use mathlib.Core.Path.{_≡_, refl, sym, ap, _∙_, fun-ext}
 use mathlib.Core.Bool.{Bool, true, false}
 use mathlib.Core.Logic.{_≢_}
-use mathlib.Core.Option.{Option, none, some}
 use mathlib.Core.List.{List, [], _∷_, _++_}
 use Prim.Native.Nat.{ℕ}
 use lib.ListN.{length}
 use lib.Dec.{eqb, leb, ltb}
-use borrow.Author.Tests.{eqb-true, ne-eqb}
 use Rattle.terms.specs.Lists.{pick, holds}
 use Rattle.terms.specs.ListLaws.{split, eqb-same}
 use Rattle.terms.specs.Kit.{Kit}
@@ -16,7 +14,9 @@ use Rattle.terms.specs.declared.Content.{Content}
 use Rattle.terms.specs.declared.Answer.{Answer}
 use Rattle.rules.specs.Table.{ag, up, sw}
 use Rattle.rules.specs.Room.{Room, Replica, put1, withReplica, issue, accept}
-use Rattle.rules.specs.Reading.{contentAt, firstOf, heldList}
+use Rattle.rules.specs.Reading.{contentAt, firstOf}
+use Rattle.rules.specs.RoomLaws.{put-back, put-again, put-apart}
+use Rattle.rules.specs.ReadingLaws.{held-same}
 use Rattle.rules.specs.Outcome.{Outcome, refuse, taken}
 use Rattle.rules.specs.Deliver.{settle, switches, afterPrepare, afterCommit, onAg, afterUpdate, onUp, afterSwitch, onSw, expectsPrepare, expectsUpdate, onDeliver}
 
@@ -26,7 +26,7 @@ pub record Own : Type 0 where
   pub own-record : Replica
   pub own-counter : ℕ → List Content
 
-abbrev pub ownOf : Room → ℕ → Own
+abbrev ownOf : Room → ℕ → Own
 ownOf r x = record { own-record = r .replica x; own-counter = r .counter x }
 
 abbrev withBoth : Room → (ℕ → ℕ → List Content) → (ℕ → Replica) → Room
@@ -45,18 +45,7 @@ withBoth r counter replica =
 unfoldable pub withOwn : Room → ℕ → Own → Room
 withOwn r x own = withBoth r (put1 (r .counter) x (own .own-counter)) (put1 (r .replica) x (own .own-record))
 
--- ---- one value of a function anew
-
-module _ {A : Type 0} (g : ℕ → A) where
-  put-back : (x : ℕ) → put1 g x (g x) ≡ g
-  put-back x = fun-ext (λ y. split (eqb y x) (λ e. rw (e, eqb-true y x e)) (λ e. rw e))
-
-  put-again : (x : ℕ) (a b : A) → put1 (put1 g x a) x b ≡ put1 g x b
-  put-again x a b = fun-ext (λ y. split (eqb y x) (λ e. rw e) (λ e. rw e))
-
-  put-apart : (x y : ℕ) (a b : A) → x ≢ y → put1 (put1 g x a) y b ≡ put1 (put1 g y b) x a
-  put-apart x y a b d =
-      fun-ext (λ z. split (eqb z y) (λ e. let n : eqb z x ≡ false = ne-eqb z x (λ q. d (sym q ∙ eqb-true z y e)) in rw (e, n)) (λ e. rw e))
+-- ---- laws of it
 
 both : (r : Room) {c c₁ : ℕ → ℕ → List Content} {p p₁ : ℕ → Replica} → c ≡ c₁ → p ≡ p₁ → withBoth r c p ≡ withBoth r c₁ p₁
 both r {c} {c₁} {p} {p₁} ec ep = ap (λ (z : ℕ → ℕ → List Content). withBoth r z p) ec ∙ ap (λ (z : ℕ → Replica). withBoth r c₁ z) ep
@@ -65,10 +54,6 @@ module _ (r : Room) (x : ℕ) where
   own-back : withOwn r x (ownOf r x) ≡ r
   unfolding withOwn
   own-back = both r (put-back (r .counter) x) (put-back (r .replica) x)
-
-  own-again : (a b : Own) → withOwn (withOwn r x a) x b ≡ withOwn r x b
-  unfolding withOwn
-  own-again a b = both r (put-again (r .counter) x (a .own-counter) (b .own-counter)) (put-again (r .replica) x (a .own-record) (b .own-record))
 
   -- of two replicas, in either order
   pub own-apart : (y : ℕ) (a b : Own) → x ≢ y → withOwn (withOwn r x a) y b ≡ withOwn (withOwn r y b) x a
@@ -158,28 +143,23 @@ pub record SeesSame (sender name value to : ℕ) (r r₁ : Room) : Type 0 where
   pub submitted : r₁ .submitted ≡ r .submitted
   pub histories : r₁ .histories ≡ r .histories
 
-held-same : (r r₁ : Room) → r₁ .histories ≡ r .histories → (held : Option ℕ) → heldList r₁ held ≡ heldList r held
-unfolding heldList
-held-same r r₁ e none = refl
-held-same r r₁ e (some h) = rw e
-
 pub same-delivery
     : (kit : Kit) (r r₁ : Room) (sender name value to : ℕ) → SeesSame sender name value to r r₁
     → SameOutcome to r r₁ (onDeliver kit r sender name value to) (onDeliver kit r₁ sender name value to)
 unfolding onDeliver onAg onUp onSw expectsPrepare expectsUpdate afterPrepare afterCommit afterUpdate afterSwitch accept
 same-delivery kit r r₁ sender name value to w =
-    let none = alike-none (w .own-record) (w .own-counter) in
+    let same = alike-none (w .own-record) (w .own-counter) in
     let p = r .replica to in
     let request = firstOf (contentAt (r .counter sender name) value) in
     rw (w .content, w .own-record, w .own-counter, ap (holds request) (w .submitted))
-    (same-refused none _ _ (same-refused none _ _ (same-refused none _ _ (same-refused none _ _ (same-refused none _ _ (same-refused none _ _
+    (same-refused same _ _ (same-refused same _ _ (same-refused same _ _ (same-refused same _ _ (same-refused same _ _ (same-refused same _ _
     (same-either (eqb name ag)
     (same-either (eqb sender (kit .leader))
-    (same-refused none _ _ (same-taken (alike-settled _ _ _ (alike-issued ag _ none))))
-    (same-refused none _ _ (same-taken (alike-settled _ _ _ none))))
+    (same-refused same _ _ (same-taken (alike-settled _ _ _ (alike-issued ag _ same))))
+    (same-refused same _ _ (same-taken (alike-settled _ _ _ same))))
     (same-either (eqb name up)
     (same-either (leb value (length (p .noted)))
-    (same-refused none _ _ (same-taken (alike-recorded _ none)))
-    (same-refused none _ _ (same-taken (alike-recorded _ none))))
-    (same-refused none _ _ (rw (held-same r r₁ (w .histories) (p .held))
-    (same-taken (alike-pick (leb (kit .f) (switches kit (accept p sender sw value))) (alike-recorded _ none) (alike-recorded _ none)))))))))))))
+    (same-refused same _ _ (same-taken (alike-recorded _ same)))
+    (same-refused same _ _ (same-taken (alike-recorded _ same))))
+    (same-refused same _ _ (rw (held-same r r₁ (w .histories) (p .held))
+    (same-taken (alike-pick (leb (kit .f) (switches kit (accept p sender sw value))) (alike-recorded _ same) (alike-recorded _ same)))))))))))))
