@@ -9,8 +9,8 @@ use borrow.Author.Tests.{ltb-true, leb-true, eqb-true, lt-ltb, le-leb, eq-eqb, n
 use lib.Dec.{eqb, leb, ltb}
 use lib.ListN.{getD, length}
 use Rattle.terms.specs.Limits.{replicas, faultsMax, ticksMax, eventsMax, requestsMax}
-use Rattle.terms.specs.Lists.{within, countOf, allOf, nth}
-use Rattle.terms.specs.ListLaws.{split, no-way, and-l, and-r, allOf-at}
+use Rattle.terms.specs.Lists.{within, countOf, nth}
+use Rattle.terms.specs.ListLaws.{split, no-way, and-l, and-r, allOf-at, allOf-from}
 use Rattle.terms.specs.Kit.{Kit, Entry, GoodKit, GoodEntry, GoodEvent, marksActive, marksFaulty, isTableNumber, isRequest, kitNumbers, entryNumbers, entriesNumbers, eventNumbers}
 use Rattle.terms.specs.Numbers.{kindOf, kindNumber, contentOf, contentNumbers}
 use Rattle.terms.specs.declared.Content.{Content}
@@ -172,10 +172,6 @@ none-filed mid l rest e = (cc, cc)
 
 requests-read : (m : ℕ) → Reads (several m (alone isRequest WrongEvent)) (λ l. l) (AllGood (λ n. isRequest n ≡ true) m)
 requests-read m = several-reads (alone-reads isRequest WrongEvent) (λ l. l) refl (λ a l. refl) m
-
-allOf-from : (l : List ℕ) (test : ℕ → Bool) → ((i a : ℕ) → nth l i ≡ some a → test a ≡ true) → allOf l test ≡ true
-allOf-from [] test f = refl
-allOf-from (x ∷ xs) test f = rw (f 0 x refl) (allOf-from xs test (λ i a h. f (suc i) a h))
 
 -- the operands and the requests of a kind are those of a good event
 kind-read : (size : ℕ) (kind : Kind) (ns ops mid l rest : List ℕ) → Row size (operandsOf kind) [] ns ops mid

@@ -6,9 +6,9 @@ use mathlib.Core.Option.{Option, none, some}
 use Prim.Native.Nat.{ℕ, suc, _≤_, _<_}
 use native.Mathlib.Omega.{arith}
 use lib.Dec.{eqb}
-use borrow.Author.Tests.{eqb-true, ne-eqb}
+use borrow.Author.Tests.{eqb-true, eqb-false, ne-eqb}
 use Rattle.terms.specs.Lists.{pick, nth, holds, Sub}
-use Rattle.terms.specs.ListLaws.{split, no-way, and-l, and-r, nth-take, take-nth, leastOver-le, leastOver-glb, leastOver-seed, leastOver-mono}
+use Rattle.terms.specs.ListLaws.{pick-elim, split, no-way, and-l, and-r, nth-take, take-nth, leastOver-le, leastOver-glb, leastOver-seed, leastOver-mono}
 use Rattle.terms.specs.ListLaws.{leastOver-step}
 use Rattle.terms.specs.Kit.{Kit}
 use Rattle.terms.specs.declared.Content.{Content}
@@ -130,6 +130,16 @@ settledCount-by-one kit x p p₁ n n₁ l f =
 pub settledCount-own : (kit : Kit) (x : ℕ) (p : Replica) (n : ℕ) → isActive kit x ≡ true → settledCount kit x p n ≤ n
 unfolding settledCount
 settledCount-own kit x p n a = rw a (leastOver-seed (actives kit) (valueSeen true n x (p .accepted)) n)
+
+-- a value more of its own settles nothing as long as another active replica y has shown no more than the n before it
+pub settledCount-waits : (kit : Kit) (x : ℕ) (p : Replica) (n y : ℕ) → isActive kit x ≡ true → holds y (actives kit) ≡ true → y ≢ x
+    → p .accepted y ag ≤ n → settledCount kit x p (suc n) ≡ settledCount kit x p n
+settledCount-waits kit x p n y a m d l =
+    let c = settledCount kit x p (suc n) in
+    let few : c ≤ n = omega (arith, settledCount-active kit x p (suc n) y a m d) in
+    let each : (z : ℕ) → holds z (actives kit) ≡ true → c ≤ pick (eqb z x) n (p .accepted z ag) =
+    λ z e. pick-elim (λ w. c ≤ w) (eqb z x) (λ t. few) (λ t. settledCount-active kit x p (suc n) z a e (eqb-false z x t)) in
+    omega (arith, settledCount-rises kit x p p n (suc n) (omega arith) (λ z i. omega arith), settledCount-least kit x p n c a each few)
 
 -- ---- settled lists of those that are not closed
 

@@ -1,5 +1,6 @@
 pub mod Limits
 pub mod Mark
+pub mod MarkLaws
 pub mod Numbers
 pub mod NumbersLaws
 pub mod Kit

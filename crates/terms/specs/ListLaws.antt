@@ -34,6 +34,9 @@ pub and-r : (a b : Bool) → (a && b) ≡ true → b ≡ true
 and-r true b e = e
 and-r false b e = cc
 
+pub and-both : {a b : Bool} → a ≡ true → b ≡ true → (a && b) ≡ true
+and-both e d = rw (e, d)
+
 pub or-l : (a b : Bool) → (a || b) ≡ false → a ≡ false
 or-l true b e = e
 or-l false b e = refl
@@ -112,6 +115,10 @@ allBelow-at zero t e i h = absurd (omega arith)
 allBelow-at (suc n) t e i h =
     split (eqb i n) (λ q. cc (eqb-true i n q, and-l (t n) (allBelow n t) e))
     (λ q. let ne : i ≢ n = eqb-false i n q in allBelow-at n t (and-r (t n) (allBelow n t) e) i (omega arith))
+
+pub allBelow-from : (n : ℕ) (t : ℕ → Bool) → ((i : ℕ) → i < n → t i ≡ true) → allBelow n t ≡ true
+allBelow-from zero t f = refl
+allBelow-from (suc n) t f = and-both (f n (omega arith)) (allBelow-from n t (λ i l. f i (omega arith)))
 
 pub eqb-same : (a : ℕ) → eqb a a ≡ true
 eqb-same a = eq-eqb a a refl
@@ -195,6 +202,10 @@ allOf-at [] t e i a h = no-way (cc)
 allOf-at (x ∷ xs) t e zero a h = let z : x ≡ a = cc in rw z at (and-l (t x) (allOf xs t) e)
 allOf-at (x ∷ xs) t e (suc i) a h = allOf-at xs t (and-r (t x) (allOf xs t) e) i a h
 
+pub allOf-from : (l : List ℕ) (t : ℕ → Bool) → ((i a : ℕ) → nth l i ≡ some a → t a ≡ true) → allOf l t ≡ true
+allOf-from [] t f = refl
+allOf-from (x ∷ xs) t f = and-both (f 0 x refl) (allOf-from xs t (λ i a h. f (suc i) a h))
+
 pub once-head : (x : ℕ) (xs : List ℕ) → Once (x ∷ xs) → holds x xs ≡ false
 once-head x xs o = not-true-false (holds x xs) (λ t. let h = holds-nth xs x t in absurd (omega (arith, o 0 (suc (h .0)) x refl (h .1))))
 
@@ -217,6 +228,10 @@ once-append l m ol om d i j a p q =
 pub distinct-once : (l : List ℕ) → distinct l ≡ true → Once l
 distinct-once [] e = λ i j a p q. no-way (cc)
 distinct-once (x ∷ xs) e = once-cons x xs (not-was-true (holds x xs) (and-l (not (holds x xs)) (distinct xs) e)) (distinct-once xs (and-r (not (holds x xs)) (distinct xs) e))
+
+pub once-distinct : (l : List ℕ) → Once l → distinct l ≡ true
+once-distinct [] o = refl
+once-distinct (x ∷ xs) o = rw (once-head x xs o) (once-distinct xs (once-tail x xs o))
 
 pub anyBelow-past : (k n : ℕ) (t : ℕ → Bool) → n ≤ k → ((i : ℕ) → n ≤ i → t i ≡ false) → anyBelow k t ≡ anyBelow n t
 anyBelow-past zero n t h e = let z : n ≡ 0 = omega arith in rw z

@@ -10,7 +10,6 @@ use lib.Dec.{eqb}
 use borrow.Author.Tests.{eqb-true, eqb-false, eq-eqb, ne-eqb}
 use Rattle.terms.specs.Lists.{holds, distinct, allOf, allBelow}
 use Rattle.terms.specs.ListLaws.{split}
-use Rattle.terms.specs.Mark.{nextMark, markFrom, markOf}
 
 -- ---- tests in another order
 
@@ -77,16 +76,9 @@ distinct-snoc (x ∷ xs) a =
     turn false false true d = refl
     turn false false false d = refl
 
-markFrom-snoc : (m : ℕ) (l : List ℕ) (a : ℕ) → markFrom m (l ++ (a ∷ [])) ≡ nextMark (markFrom m l) a
-markFrom-snoc m [] a = refl
-markFrom-snoc m (x ∷ xs) a = markFrom-snoc (nextMark m x) xs a
-
 -- ---- the first n entries
 
 module _ (l : List ℕ) where
-  pub mark-next : (i : ℕ) → i < length l → markOf (take (suc i) l) ≡ nextMark (markOf (take i l)) (getD l i 0)
-  mark-next i h = ap markOf (take-suc l i 0 h) ∙ markFrom-snoc 0 (take i l) (getD l i 0)
-
   pub allOf-entries : (t : ℕ → Bool) (n : ℕ) → n ≤ length l → allOf (take n l) t ≡ allBelow n (λ i. t (getD l i 0))
   allOf-entries t zero h = refl
   allOf-entries t (suc n) h =

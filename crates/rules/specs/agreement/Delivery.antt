@@ -55,7 +55,7 @@ next-settle kit {r} {r₁} x p {ags} {ups} c d a v ax free u₀ u₁ ed lo hi cm
     (λ t. let v₁ = moved-up (moved-record v (withMark p m)) (Update q m) in
     let g = grows-trans (grows-withReplica r₁ x (withMark p m)) (grows-issue (withReplica r₁ x (withMark p m)) x up (Update q m)) in
     next-move kit x a v₁ (good₁ ∙ sym good₀)
-    (λ f. let act₂ = active-rise kit x p ags ups c d m ax free ed (omega (arith, ltb-true c d t)) act₁ in
+    (λ f. let act₂ = active-rise kit x p ags ups c d m ax free refl (running-open (p .condition) u₁) ed (omega (arith, ltb-true c d t)) act₁ in
     let few = active-few kit x (withMark p m) ags (ups ++ (Update q m ∷ [])) ax free act₂ in
     record {
       common = common-grows kit g (common-same kit refl refl refl refl cm);
@@ -95,20 +95,20 @@ prepare-grows kit x p n s v q ev =
     settledNoted-rises kit x p (accept (note p q) s ag v) n (suc n) (λ i a e. nth-append (p .noted) (q ∷ []) i e)
     (settledCount-rises kit x p (accept (note p q) s ag v) n (suc n) (omega arith) (λ y m. accepted-rises (p .accepted) s ag v y m ev))
 
-next-prepare : (kit : Kit) → Roles kit → (r : Room) → Invariant kit r → (v x q : ℕ) → isMarkedFaulty kit x ≡ false → isActive kit x ≡ true
+next-prepare : (kit : Kit) (r : Room) → Invariant kit r → (v x q : ℕ) → isMarkedFaulty kit x ≡ false → isActive kit x ≡ true
     → x ≢ kit .leader → isRunning (r .replica x .condition) ≡ true
     → v ≡ suc (r .replica x .accepted (kit .leader) ag)
     → nth (r .counter (kit .leader) ag) (r .replica x .accepted (kit .leader) ag) ≡ some (Prepare q) → holds q (r .submitted) ≡ true
     → holds q (r .replica x .noted) ≡ false
     → Next kit r (afterPrepare kit r (kit .leader) v x q)
 unfolding afterPrepare accept note
-next-prepare kit roles r a v x q fx ax xl run ev ec es en =
+next-prepare kit r a v x q fx ax xl run ev ec es en =
     next-settle kit x p₁ (settledCount kit x p n) (settledCount kit x p₁ (suc n)) a (moved-ag (moved-none r x) (Commit q v)) ax free run run
     (ap (settledCount kit x p₁) (sym (length-snoc (r .counter x ag) (Commit q v))))
     (settledCount-rises kit x p p₁ n (suc n) (omega arith) (λ y m. accepted-rises (p .accepted) (kit .leader) ag v y m ev))
     (settledCount-by-one kit x p p₁ n (suc n) (omega arith) (λ y m. accepted-by-one (p .accepted) (kit .leader) ag v y m ev))
     (common-note kit g q refl refl refl (omega arith) (still-submitted g q es) en (loc .common))
-    (active-prepare kit roles g x p (r .counter x ag) (r .counter x up) (settledCount kit x p n) q v xl free
+    (active-prepare kit g x p (r .counter x ag) (r .counter x up) (settledCount kit x p n) q v xl free
     (ev ∙ ap suc (av .leader-accepted xl free)) (rw (av .leader-accepted xl free) at ec) sub av)
     sub
   where
@@ -141,14 +141,14 @@ next-prepare kit roles r a v x q fx ax xl run ev ec es en =
 next-commit : (kit : Kit) (r : Room) → Invariant kit r → (s v x b : ℕ) → isMarkedFaulty kit x ≡ false → isActive kit x ≡ true → s ≢ kit .leader
     → isRunning (r .replica x .condition) ≡ true
     → v ≡ suc (r .replica x .accepted s ag) → nth (r .counter s ag) (r .replica x .accepted s ag) ≡ some (Commit b v)
-    → v ≤ length (r .replica x .noted) → Next kit r (afterCommit kit r s v x)
+    → nth (r .replica x .noted) (r .replica x .accepted s ag) ≡ some b → Next kit r (afterCommit kit r s v x)
 unfolding afterCommit accept
-next-commit kit r a s v x b fx ax sl run ev ec lv =
+next-commit kit r a s v x b fx ax sl run ev ec en =
     next-settle kit x p₁ (settledCount kit x p n) (settledCount kit x p₁ n) a (moved-none r x) ax free run run
     refl ups
     (settledCount-by-one kit x p p₁ n n (omega arith) (λ y m. accepted-by-one (p .accepted) s ag v y m ev))
     (common-same kit refl refl refl refl (loc .common))
-    (active-commit kit x p (r .counter x ag) (r .counter x up) (settledCount kit x p n) s b v sl ev lv ec sub (loc .active ax))
+    (active-commit kit x p (r .counter x ag) (r .counter x up) (settledCount kit x p n) s b v sl ev en ec sub (loc .active ax))
     sub
   where
     p : Replica
@@ -187,29 +187,30 @@ prepare-expected r p o e =
     )
 
 commit-expected : (p : Replica) (v : ℕ) (o : Option Content) → expectsCommit p v o ≡ true
-    → (v ≤ length (p .noted)) × (b : ℕ) × (o ≡ some (Commit b v))
+    → (v ≤ length (p .noted)) × (o ≡ some (Commit (getD (p .noted) (v - 1) 0) v))
 unfolding expectsCommit
 commit-expected p v o e =
     let b = getD (p .noted) (v - 1) 0 in (
       leb-true v (length (p .noted)) (and-l (leb v (length (p .noted))) (isContent o (Commit b v)) e),
-      b,
       isContent-same o (Commit b v)
           (and-r (leb v (length (p .noted))) (isContent o (Commit b v)) e),
     )
 
-next-ag : (kit : Kit) → Roles kit → (r : Room) → Invariant kit r → (s v x : ℕ) (o : Option Content) → o ≡ contentAt (r .counter s ag) v
+next-ag : (kit : Kit) (r : Room) → Invariant kit r → (s v x : ℕ) (o : Option Content) → o ≡ contentAt (r .counter s ag) v
     → isMarkedFaulty kit x ≡ false → isActive kit x ≡ true → s ≢ x → isRunning (r .replica x .condition) ≡ true
     → v ≡ suc (r .replica x .accepted s ag) → Next kit r (onAg kit r s v x o .room)
 unfolding onAg
-next-ag kit roles r a s v x o eo fx ax sx run ev =
+next-ag kit r a s v x o eo fx ax sx run ev =
     pick-elim (λ (z : Outcome). Next kit r (z .room)) (eqb s (kit .leader))
     (λ t. next-refuse kit r a _ _ _ λ u.
     let z = eqb-true s (kit .leader) t in
     let w = prepare-expected r (r .replica x) o (not-was-false (expectsPrepare r (r .replica x) o) u) in
-    rw z (next-prepare kit roles r a v x (firstOf o) fx ax (λ y. sx (z ∙ sym y)) run (rw z at ev) (rw z at (ec ∙ w .0)) (w .1) (w .2)))
+    rw z (next-prepare kit r a v x (firstOf o) fx ax (λ y. sx (z ∙ sym y)) run (rw z at ev) (rw z at (ec ∙ w .0)) (w .1) (w .2)))
     (λ t. next-refuse kit r a _ _ _ λ u.
     let w = commit-expected (r .replica x) v o (not-was-false (expectsCommit (r .replica x) v o) u) in
-    next-commit kit r a s v x (w .1) fx ax (eqb-false s (kit .leader) t) run ev (ec ∙ w .2) (w .0))
+    let i : v - 1 ≡ r .replica x .accepted s ag = omega arith in
+    next-commit kit r a s v x _ fx ax (eqb-false s (kit .leader) t) run ev (rw i at (ec ∙ w .1))
+    (nth-getD (r .replica x .noted) (r .replica x .accepted s ag) 0 (omega (arith, w .0))))
   where
     ec : nth (r .counter s ag) (r .replica x .accepted s ag) ≡ o
     ec = rw (eo, ev)
@@ -308,7 +309,7 @@ next-sw kit roles r a s v x o fx op hs =
     next-move kit x a v₁ (sym ok)
     (λ f. record {
       common = common-grows kit g (common-same kit refl refl refl refl (common-close kit p₁ (held .0) (held .1) c₁));
-      active = λ e. active-grows kit g (active-same kit x p p₂ _ _ refl refl (λ y. refl) refl (loc .active e));
+      active = λ e. active-grows kit g (active-same kit x p p₂ _ _ refl refl (λ y. refl) (λ h. no-way (cc h)) refl (loc .active e));
       passive = λ e. passive-grows kit g (passive-same kit refl refl (λ y. refl) (loc .passive e));
       ag-few = loc .ag-few;
       up-few = loc .up-few;
@@ -320,7 +321,7 @@ next-sw kit roles r a s v x o fx op hs =
     next-move kit x a v₁ refl
     (λ f. record {
       common = common-grows kit g c₁;
-      active = λ e. active-grows kit g (active-same kit x p p₁ _ _ refl refl (λ y. refl) refl (loc .active e));
+      active = λ e. active-grows kit g (active-same kit x p p₁ _ _ refl refl (λ y. refl) (λ h. (h, refl)) refl (loc .active e));
       passive = λ e. passive-grows kit g (passive-same kit refl refl (λ y. refl) (loc .passive e));
       ag-few = loc .ag-few;
       up-few = loc .up-few;
@@ -390,7 +391,7 @@ next-deliver kit roles r a s m v x m2 =
     pick-elim (λ (z : Outcome). Next kit r (z .room)) (eqb m 0)
     (λ t. let z = eqb-true m 0 t in
     let ro₁ = roles-ag kit s m x ro z in
-    next-ag kit roles r a s v x _ (rw z) fx (ro₁ .1) (ro₁ .0) (in-time-running m (r .replica x) lt (rw z)) (rw z at ev))
+    next-ag kit r a s v x _ (rw z) fx (ro₁ .1) (ro₁ .0) (in-time-running m (r .replica x) lt (rw z)) (rw z at ev))
     (λ t. pick-elim (λ (z : Outcome). Next kit r (z .room)) (eqb m 1)
     (λ t₁. let z = eqb-true m 1 t₁ in
     next-up kit r a s v x _ (rw z) fx (roles-up kit s m x ro z) (in-time-running m (r .replica x) lt (rw z)) (rw z at ev))

@@ -16,14 +16,14 @@ use Rattle.terms.specs.declared.Content.the-variants.{Prepare}
 use Rattle.terms.specs.declared.Condition.the-variants.{Halted}
 use Rattle.terms.specs.declared.Event.{Event}
 use Rattle.terms.specs.declared.Event.the-variants.{Submit, Issue, Deliver, Hand, Panic, Idle, Build, File}
-use Rattle.rules.specs.Table.{ag, up, isMarkedFaulty}
+use Rattle.rules.specs.Table.{ag, up, isMarkedFaulty, switchLeader}
 use Rattle.rules.specs.TableLaws.{Roles}
 use Rattle.rules.specs.Room.{Room, Replica, withReplica, withClock, withLate, issue, remember, withCondition, note}
 use Rattle.rules.specs.Reading.{isRunning, isClosed, isFaulty, settledCount, settledNoted}
-use Rattle.rules.specs.ReadingLaws.{running-open, running-correct, settledNoted-rises}
+use Rattle.rules.specs.ReadingLaws.{running-open, running-correct, settledCount-waits, settledNoted-rises}
 use Rattle.rules.specs.Growth.{grows-withReplica, tick-grows}
 use Rattle.rules.specs.agreement.Invariant.{FilingBounds, Part, Invariant, part-grows}
-use Rattle.rules.specs.agreement.Changes.{common-note, common-halt, active-submit, active-same, settledCount-submit, passive-same}
+use Rattle.rules.specs.agreement.Changes.{common-note, common-halt, seen-within, active-submit, active-same, passive-same}
 use Rattle.rules.specs.agreement.Frame.{moved-none, moved-record, moved-ag, moved-submission, moved-file, moved-any, Next, next-none}
 use Rattle.rules.specs.agreement.Frame.{next-trans, next-move, next-still, grows-open}
 use Rattle.rules.specs.Clock.{tick}
@@ -35,13 +35,13 @@ use Rattle.rules.specs.agreement.Handover.{next-hand, next-build}
 
 -- ---- halting
 
-halt-part : (kit : Kit) {r : Room} (x : ℕ) (p : Replica) {ags ups : List Content} → Part kit r x p ags ups
+halt-part : (kit : Kit) {r : Room} (x : ℕ) (p : Replica) {ags ups : List Content} → isClosed (p .condition) ≡ false → Part kit r x p ags ups
     → Part kit r x (withCondition p Halted) ags ups
 unfolding withCondition settledCount
-halt-part kit x p {ags} {ups} l =
+halt-part kit x p {ags} {ups} op l =
     record {
       common = common-halt kit p (l .common);
-      active = λ e. active-same kit x p (withCondition p Halted) ags ups refl refl (λ y. refl) refl (l .active e);
+      active = λ e. active-same kit x p (withCondition p Halted) ags ups refl refl (λ y. refl) (λ h. (op, refl)) refl (l .active e);
       passive = λ e. passive-same kit refl refl (λ y. refl) (l .passive e);
       ag-few = l .ag-few;
       up-few = l .up-few;
@@ -62,7 +62,7 @@ halt-correct p = refl
 -- ---- submit, issue, PANIC, file
 
 next-submit : (kit : Kit) → Roles kit → (r : Room) → Invariant kit r → (q : ℕ) → Next kit r (onSubmit kit r q .room)
-unfolding onSubmit afterSubmit note issue withReplica remember
+unfolding onSubmit afterSubmit note issue withReplica remember settledCount
 next-submit kit roles r a q =
     next-refuse kit r a _ _ _ λ e₁. next-refuse kit r a _ _ _ λ e₂.
     let room = leb-false requestsMax (length (r .submitted)) e₂ in
@@ -87,7 +87,9 @@ next-submit kit roles r a q =
         let av = loc .active (roles .leader-active) in
         let free = loc .common .running-holds-none run in
         let n = length (r .counter l ag) in
-        let es = settledCount-submit kit roles p n q (av .ag-total free) (av .switch-within (λ z. roles .switch-not-leader (sym z))) in
+        let es = settledCount-waits kit l (note p q) n (switchLeader kit) (roles .leader-active)
+        (roles .active-listed (switchLeader kit) (roles .switch-active)) (roles .switch-not-leader)
+        (omega (arith, seen-within av (switchLeader kit) (roles .switch-not-leader), av .ag-total free)) in
         let z : settledCount kit l (note p q) (length (r .counter l ag ++ (Prepare q ∷ []))) ≡ settledCount kit l p n = ap
         (settledCount kit l (note p q)) (length-snoc (r .counter l ag) (Prepare q)) ∙ es in
         let sub = settledNoted-rises kit l p (note p q) n (length (r .counter l ag ++ (Prepare q ∷ [])))
@@ -116,10 +118,11 @@ unfolding onPanic
 next-panic kit r a x =
     next-refuse kit r a _ _ _ λ fx. next-refuse kit r a _ _ _ λ e.
     let p = r .replica x in
+    let op = running-open (p .condition) (not-was-false (isRunning (p .condition)) e) in
     let v = moved-record (moved-none r x) (withCondition p Halted) in
     let g = grows-withReplica r x (withCondition p Halted) in
-    next-move kit x a v (halt-correct p ∙ sym fx) (λ f. part-grows kit g (halt-part kit x p (a .part x f)))
-    (λ f. grows-open kit x v fx (halt-correct p) (running-open (p .condition) (not-was-false (isRunning (p .condition)) e)) (halt-open p)
+    next-move kit x a v (halt-correct p ∙ sym fx) (λ f. part-grows kit g (halt-part kit x p op (a .part x f)))
+    (λ f. grows-open kit x v fx (halt-correct p) op (halt-open p)
     (rw (halt-settled kit x p (length (r .counter x ag))) λ i q z. z))
 
 next-file : (kit : Kit) (r : Room) → Invariant kit r → (j n : ℕ) (l : List ℕ)

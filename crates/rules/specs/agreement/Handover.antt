@@ -1,5 +1,5 @@
 -- Building a history and handing it over keep the invariant: what a correct replica holds is backed. Assumes nothing.
-use mathlib.Core.Path.{_≡_, refl, sym, _∙_}
+use mathlib.Core.Path.{_≡_, refl, sym, ap, _∙_}
 use mathlib.Core.Bool.{true, false, or-true}
 use mathlib.Core.Logic.{⊎-elim}
 use mathlib.Core.Option.{Option, none, some}
@@ -20,7 +20,7 @@ use Rattle.rules.specs.Table.{ag, up, isMarkedFaulty, switchLeader}
 use Rattle.rules.specs.TableLaws.{Roles}
 use Rattle.rules.specs.Room.{Room, Replica, Filing, withReplica, issue, withHistory, hold}
 use Rattle.rules.specs.Reading.{isRunning, isClosed, isFaulty, contentAt, isContent, firstOf, settledCount, settledNoted}
-use Rattle.rules.specs.ReadingLaws.{isContent-same, settledCount-rises, settledCount-own, settledNoted-rises}
+use Rattle.rules.specs.ReadingLaws.{isContent-same, settledCount-rises, settledCount-own, settledCount-waits, settledNoted-rises}
 use Rattle.rules.specs.Growth.{Grows, still-submitted}
 use Rattle.rules.specs.agreement.Invariant.{FilingBounds, Backed, Active, Part, Invariant, common-grows, active-grows, passive-grows}
 use Rattle.rules.specs.agreement.Changes.{common-hold, active-hold, active-build, passive-same}
@@ -82,7 +82,8 @@ next-hand kit r a p q x =
     (λ f. let loc = a .part x f in
     record {
       common = common-grows kit (v .grows) (common-hold kit w h run wk (loc .common));
-      active = λ e. active-grows kit (v .grows) (active-hold kit x w _ _ _ _ h (loc .active e));
+      active = λ e. active-grows kit (v .grows) (active-hold kit x w _ _ _ h
+          (none-of (w .held) (or-l (isSome (w .held)) (isClosed (w .condition)) lt)) (loc .active e));
       passive = λ e. passive-grows kit (v .grows) (passive-same kit refl refl (λ y. refl) (loc .passive e));
       ag-few = loc .ag-few;
       up-few = loc .up-few;
@@ -153,13 +154,13 @@ built-backed kit roles r r₁ a g fs free eh ea =
 
 next-afterBuild : (kit : Kit) → Roles kit → (r : Room) → Invariant kit r → isMarkedFaulty kit (switchLeader kit) ≡ false
     → isRunning (r .replica (switchLeader kit) .condition) ≡ false → r .replica (switchLeader kit) .held ≡ none → Next kit r (afterBuild kit r)
-unfolding afterBuild built issue withReplica withHistory hold
+unfolding afterBuild built issue withReplica withHistory hold settledCount
 next-afterBuild kit roles r a fs run free =
     next-move kit s a v refl
     (λ f. record {
       common = common-hold kit p h run wk (common-grows kit (v .grows) (loc .common));
-      active = λ e. active-grows kit (v .grows) (active-build kit p (r .counter s ag) (r .counter s up)
-          (settledCount kit s p (length (r .counter s ag))) _ h (roles .switch-not-leader) av);
+      active = λ e. rw same (active-grows kit (v .grows) (active-build kit p (r .counter s ag) (r .counter s up)
+          (settledCount kit s p (length (r .counter s ag))) h free av));
       passive = λ e. no-way (cc (roles .switch-active));
       ag-few = omega (arith, av .ag-total free, length-snoc (r .counter s ag) (History h));
       up-few = omega (
@@ -190,6 +191,15 @@ next-afterBuild kit roles r a fs run free =
 
     av : Active kit r s p (r .counter s ag) (r .counter s up) (settledCount kit s p (length (r .counter s ag)))
     av = loc .active (roles .switch-active)
+
+    -- HISTORY on ag settles nothing: of the leader it has accepted what it noted
+    same : settledCount kit s (hold p h) (length (r .counter s ag ++ (History h ∷ []))) ≡ settledCount kit s p (length (r .counter s ag))
+    same =
+        let l = kit .leader in
+        ap (settledCount kit s (hold p h)) (length-snoc (r .counter s ag) (History h))
+        ∙ settledCount-waits kit s (hold p h) (length (r .counter s ag)) l (roles .switch-active) (roles .active-listed l (roles .leader-active))
+        (λ z. roles .switch-not-leader (sym z))
+        (omega (arith, av .leader-accepted (roles .switch-not-leader) free, av .ag-total free))
 
     fits : FilingBounds (built kit r)
     fits = record {

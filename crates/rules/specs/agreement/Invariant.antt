@@ -3,12 +3,13 @@
 use mathlib.Core.Path.{_≡_}
 use mathlib.Core.Bool.{true, false}
 use mathlib.Core.Logic.{_≢_}
-use mathlib.Core.Option.{none, some}
+use mathlib.Core.Option.{Option, none, some}
 use mathlib.Core.List.{List}
 use Prim.Native.Nat.{ℕ, suc, _≤_, _<_}
-use lib.ListN.{length}
+use lib.ListN.{length, take}
 use Rattle.terms.specs.Limits.{requestsMax}
 use Rattle.terms.specs.Lists.{nth, holds, Once}
+use Rattle.terms.specs.Mark.{markOf}
 use Rattle.terms.specs.Kit.{Kit}
 use Rattle.terms.specs.declared.Content.{Content}
 use Rattle.terms.specs.declared.Content.the-variants.{Prepare, Commit, Update, History}
@@ -51,17 +52,25 @@ pub record Common (kit : Kit) (r : Room) (p : Replica) : Type 0 where
   pub closed-holds : isClosed (p .condition) ≡ true → (h : ℕ) × (p .held ≡ some h)
   pub pairs-few : length (p .pairMarks) ≤ length (p .noted)
 
+-- a HISTORY that a replica issued is the last on its counter, and is of the history that it holds
+abbrev pub HistoryLast : Option ℕ → List Content → Type 0
+HistoryLast held issued = (i h : ℕ) → nth issued i ≡ some (History h) → (suc i ≡ length issued) × (held ≡ some h)
+
 -- of an active one, x, that issued `ags` on ag and `ups` on up and has settled c but for a closing
 pub record Active (kit : Kit) (r : Room) (x : ℕ) (p : Replica) (ags ups : List Content) (c : ℕ) : Type 0 where
   pub prepared : (i q : ℕ) → nth (p .noted) i ≡ some q → nth (r .counter (kit .leader) ag) i ≡ some (Prepare q)
   pub committed : x ≢ kit .leader → (i q : ℕ) → nth (p .noted) i ≡ some q → nth ags i ≡ some (Commit q (suc i))
   pub ag-total : p .held ≡ none → length ags ≡ length (p .noted)
   pub leader-accepted : x ≢ kit .leader → p .held ≡ none → p .accepted (kit .leader) ag ≡ length (p .noted)
-  pub switch-commits : x ≢ switchLeader kit → (i : ℕ) → i < p .accepted (switchLeader kit) ag
-      → (q : ℕ) × (b : ℕ) × (nth (r .counter (switchLeader kit) ag) i ≡ some (Commit q b))
-  pub switch-within : x ≢ switchLeader kit → p .accepted (switchLeader kit) ag ≤ length (p .noted)
+  pub commits-seen : (y : ℕ) → y ≢ kit .leader → (i : ℕ) → i < p .accepted y ag
+      → (q : ℕ) × (nth (p .noted) i ≡ some q) × (nth (r .counter y ag) i ≡ some (Commit q (suc i)))
   pub updates-settled : (i q m : ℕ) → nth ups i ≡ some (Update q m) → nth (settledNoted kit x p (length ags)) i ≡ some q
   pub up-total : p .held ≡ none → length ups ≡ c
+  pub mark-settled : isClosed (p .condition) ≡ false → p .mark ≡ markOf (take c (p .noted))
+  pub updates-marked : (i : ℕ) → i < c
+      → (q : ℕ) × (nth (p .noted) i ≡ some q) × (nth ups i ≡ some (Update q (markOf (take (suc i) (p .noted)))))
+  pub ag-history : HistoryLast (p .held) ags
+  pub up-history : HistoryLast (p .held) ups
 
 -- of a passive one: below an accepted up value stand UPDATEs of its noted requests
 pub record Passive (kit : Kit) (r : Room) (p : Replica) : Type 0 where
@@ -117,10 +126,13 @@ module _ (kit : Kit) {r r₁ : Room} (g : Grows r r₁) where
         committed = a .committed;
         ag-total = a .ag-total;
         leader-accepted = a .leader-accepted;
-        switch-commits = λ n i l. let t = a .switch-commits n i l in (t .0, t .1, g .counters _ _ _ _ (t .2));
-        switch-within = a .switch-within;
+        commits-seen = λ y d i l. let t = a .commits-seen y d i l in (t .0, t .1, g .counters _ _ _ _ (t .2));
         updates-settled = a .updates-settled;
         up-total = a .up-total;
+        mark-settled = a .mark-settled;
+        updates-marked = a .updates-marked;
+        ag-history = a .ag-history;
+        up-history = a .up-history;
       }
 
   pub passive-grows : {p : Replica} → Passive kit r p → Passive kit r₁ p

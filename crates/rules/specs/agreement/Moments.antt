@@ -1,5 +1,5 @@
 -- The invariant at every moment of a good kit's play, and what stands between two moments. Assumes nothing.
-use mathlib.Core.Path.{_≡_, refl}
+use mathlib.Core.Path.{_≡_, refl, sym}
 use mathlib.Core.Bool.{Bool, true, false}
 use mathlib.Core.Option.{some}
 use mathlib.Core.List.{List, [], _∷_}
@@ -11,10 +11,10 @@ use Rattle.terms.specs.Lists.{pick, nth}
 use Rattle.terms.specs.ListLaws.{no-way, nth-take}
 use Rattle.terms.specs.Kit.{Kit, GoodKit, Entry, GoodEntries}
 use Rattle.terms.specs.declared.Condition.the-variants.{Running, Faulty}
-use Rattle.rules.specs.Table.{isMarkedFaulty}
+use Rattle.rules.specs.Table.{isActive, isMarkedFaulty}
 use Rattle.rules.specs.TableLaws.{Roles, roles}
 use Rattle.rules.specs.Room.{Room, freshRoom, freshReplica}
-use Rattle.rules.specs.Reading.{isClosed, isFaulty}
+use Rattle.rules.specs.Reading.{isClosed, isFaulty, settledCount}
 use Rattle.rules.specs.ReadingLaws.{settledCount-own}
 use Rattle.rules.specs.Play.{step, play, after}
 use Rattle.rules.specs.Growth.{after-later}
@@ -50,10 +50,13 @@ fresh-invariant kit =
           committed = λ d i q e. no-way (cc);
           ag-total = λ e. refl;
           leader-accepted = λ d e. refl;
-          switch-commits = λ d i l. absurd (omega arith);
-          switch-within = λ d. omega arith;
+          commits-seen = λ y d i l. absurd (omega arith);
           updates-settled = λ i q m e. no-way (cc);
-          up-total = λ e. omega (arith, settledCount-own kit x (freshReplica (isMarkedFaulty kit x)) 0 ax);
+          up-total = λ e. sym (none-settled x ax);
+          mark-settled = λ e. rw (none-settled x ax);
+          updates-marked = λ i l. absurd (omega (arith, none-settled x ax));
+          ag-history = λ i h e. no-way (cc);
+          up-history = λ i h e. no-way (cc);
         };
         passive = λ ax. record { updated = λ y i l. absurd (omega arith); paired = refl };
         ag-few = omega arith;
@@ -63,6 +66,9 @@ fresh-invariant kit =
       submissions = record { once = λ i j a e d. no-way (cc); timed = refl; few = omega arith };
       faulty-marked = λ x. fresh-faulty (isMarkedFaulty kit x);
     }
+  where
+    none-settled : (x : ℕ) → isActive kit x ≡ true → settledCount kit x (freshReplica (isMarkedFaulty kit x)) 0 ≡ 0
+    none-settled x ax = omega (arith, settledCount-own kit x (freshReplica (isMarkedFaulty kit x)) 0 ax)
 
 -- ---- some events, then a kit's first n
 

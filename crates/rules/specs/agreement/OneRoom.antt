@@ -96,7 +96,7 @@ module _ (kit : Kit) (roles : Roles kit) (r : Room) (all : Invariant kit r) wher
           split (ltb i (w .filing .k)) (λ b. ltb-true i (w .filing .k) b) λ b.
           let n = settledCount-active kit x (r .replica x) (length (r .counter x ag)) (switchLeader kit) a
           (roles .active-listed (switchLeader kit) (roles .switch-active)) (λ z. d (sym z)) in
-          let s = l .switch-commits d (w .filing .k) (omega (arith, ltb-false i (w .filing .k) b, c .0)) in
+          let s = l .commits-seen (switchLeader kit) (roles .switch-not-leader) (w .filing .k) (omega (arith, ltb-false i (w .filing .k) b, c .0)) in
           no-way (cc (w .announced, s .2))
 
   pub open-below : (x : ℕ) → isMarkedFaulty kit x ≡ false → {h : ℕ} (w : Backed kit r h) (i q : ℕ) → nth (openList kit r x) i ≡ some q

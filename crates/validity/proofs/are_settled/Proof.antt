@@ -6,7 +6,7 @@ use native.Mathlib.Numerals.{add-one}
 use lib.ListN.{take}
 use borrow.Author.Needs.{needs}
 use Rattle.terms.specs.Mark.{markOf}
-use Rattle.validity.specs.Entries.{mark-next}
+use Rattle.terms.specs.MarkLaws.{mark-next}
 use Rattle.validity.specs.Validity.{isSettledOn}
 use Rattle.validity.proofs.Passing.{Passed, pass, fail, all-pass}
 use Rattle.validity.proofs.are_settled.Statement.{statement}
