@@ -8,7 +8,7 @@ use native.Mathlib.Omega.{arith}
 use lib.Dec.{eqb}
 use borrow.Author.Tests.{eqb-true, eqb-false, ne-eqb}
 use Rattle.terms.specs.Lists.{pick, nth, holds, Sub}
-use Rattle.terms.specs.ListLaws.{pick-elim, split, no-way, and-l, and-r, nth-take, take-nth, leastOver-le, leastOver-glb, leastOver-seed, leastOver-mono}
+use Rattle.terms.specs.ListLaws.{pick-elim, split, no-way, and-l, and-r, and-both, eqb-same, nth-take, take-nth, leastOver-le, leastOver-glb, leastOver-seed, leastOver-mono}
 use Rattle.terms.specs.ListLaws.{leastOver-step}
 use Rattle.terms.specs.Kit.{Kit}
 use Rattle.terms.specs.declared.Content.{Content}
@@ -72,6 +72,17 @@ sameContent-same (Switch a) (Switch c) e = ap Switch (eqb-true a c e)
 pub isContent-same : (o : Option Content) (c : Content) → isContent o c ≡ true → o ≡ some c
 isContent-same none c e = no-way (cc)
 isContent-same (some d) c e = ap some (sameContent-same d c e)
+
+-- and a content passes the test for itself
+sameContent-self : (c : Content) → sameContent c c ≡ true
+sameContent-self (Prepare a) = eqb-same a
+sameContent-self (Commit a b) = and-both (eqb-same a) (eqb-same b)
+sameContent-self (Update a b) = and-both (eqb-same a) (eqb-same b)
+sameContent-self (History a) = eqb-same a
+sameContent-self (Switch a) = eqb-same a
+
+pub isContent-self : {o : Option Content} {c : Content} → o ≡ some c → isContent o c ≡ true
+isContent-self {o} {c} e = rw e (sameContent-self c)
 
 -- ---- settled counts: of active replica y, x has seen no less than it has settled
 

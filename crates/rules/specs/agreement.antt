@@ -6,6 +6,7 @@ pub mod Closing
 pub mod Bounds
 pub mod Rows
 pub mod Invariant
+pub mod Sound
 pub mod OneRoom
 pub mod Changes
 pub mod Frame
@@ -13,3 +14,5 @@ pub mod Delivery
 pub mod Handover
 pub mod Events
 pub mod Moments
+pub mod Built
+pub mod Believed

@@ -6,11 +6,12 @@ use mathlib.Core.Option.{Option, none, some}
 use mathlib.Core.List.{List, [], _∷_, _++_}
 use Prim.Native.Nat.{ℕ, zero, suc, _≤_, _<_}
 use native.Mathlib.Omega.{arith}
-use lib.ListN.{length, getD, length-append}
+use lib.ListN.{length, getD, length-append, List·getD-append}
+use lib.Seq.{take-append-le}
 use lib.Dec.{eqb}
 use borrow.Author.Tests.{eqb-true}
 use Rattle.terms.specs.Lists.{nth, holds, distinct, allOf, allBelow, Once, isSome}
-use Rattle.terms.specs.ListLaws.{split, no-way, pick-elim, and-l, and-r, or-l, or-r, not-was-false, not-true-false, eqb-same, nth-lt, nth-in}
+use Rattle.terms.specs.ListLaws.{split, no-way, pick-elim, and-l, and-r, or-l, or-r, not-was-false, not-true-false, eqb-same, nth-lt}
 use Rattle.terms.specs.ListLaws.{nth-snoc, nth-app-inv, nth-getD, length-snoc, holds-nth, not-holds, allBelow-at, allOf-at, distinct-once, once-cons}
 use Rattle.terms.specs.ListLaws.{once-head, once-tail, once-append}
 use Rattle.terms.specs.Kit.{Kit}
@@ -20,9 +21,11 @@ use Rattle.rules.specs.Table.{ag, up, isMarkedFaulty, switchLeader}
 use Rattle.rules.specs.TableLaws.{Roles}
 use Rattle.rules.specs.Room.{Room, Replica, Filing, withReplica, issue, withHistory, hold}
 use Rattle.rules.specs.Reading.{isRunning, isClosed, isFaulty, contentAt, isContent, firstOf, settledCount, settledNoted}
-use Rattle.rules.specs.ReadingLaws.{isContent-same, settledCount-rises, settledCount-own, settledCount-waits, settledNoted-rises}
+use Rattle.rules.specs.ReadingLaws.{isContent-same, settledCount-active, settledCount-own, settledCount-waits, settledNoted-rises}
 use Rattle.rules.specs.Growth.{Grows, still-submitted}
 use Rattle.rules.specs.agreement.Invariant.{FilingBounds, Backed, Active, Part, Invariant, common-grows, active-grows, passive-grows}
+use Rattle.rules.specs.agreement.Sound.{Sound, sound-backed}
+use Rattle.rules.specs.agreement.Built.{built-filed}
 use Rattle.rules.specs.agreement.Changes.{common-hold, active-hold, active-build, passive-same}
 use Rattle.rules.specs.agreement.Frame.{Moved, moved-none, moved-record, moved-ag, moved-up, moved-sw, moved-file, Next, next-move, grows-open}
 use Rattle.rules.specs.Switching.{isCommitted, isValid, isValidFiling, afterHand, onHand, missing, built, afterBuild, onBuild}
@@ -115,116 +118,124 @@ missing-once noted (x ∷ xs) o =
     (cc (missing-at noted xs (h .0) x (h .1) .0, once-head x xs o))))
     (missing-once noted xs (once-tail x xs o)))
 
--- what the switch leader builds is backed
-built-backed : (kit : Kit) → Roles kit → (r r₁ : Room) → Invariant kit r → Grows r r₁ → isMarkedFaulty kit (switchLeader kit) ≡ false
-    → r .replica (switchLeader kit) .held ≡ none
-    → nth (r₁ .histories) (length (r .histories)) ≡ some (built kit r)
-    → r₁ .counter (switchLeader kit) ag ≡ r .counter (switchLeader kit) ag ++ (History (length (r .histories)) ∷ [])
-    → Backed kit r₁ (length (r .histories))
-unfolding built
-built-backed kit roles r r₁ a g fs free eh ea =
-    record {
-      filing = built kit r;
-      is-filed = eh;
-      announced = rw ea (nth-snoc ags (History (length (r .histories))));
-      commits-below = λ i l. let n = nth-in noted i (omega (arith, av .ag-total free)) in
-          (n .0, suc i, g .counters _ _ _ _ (av .committed (roles .switch-not-leader) i (n .0) (n .1)));
-      prepared = λ i q l e. g .counters _ _ _ _ (av .prepared i q
-          (⊎-elim (λ h. h) (λ h. absurd (omega (arith, h .1, av .ag-total free))) (nth-app-inv noted (missing noted (r .submitted)) i e)));
-      long = omega (arith, length-append noted (missing noted (r .submitted)), av .ag-total free);
-      once = once-append noted (missing noted (r .submitted)) (loc .common .once) (missing-once noted (r .submitted) (a .submissions .once))
-          (λ i j q e d. not-holds noted q (missing-at noted (r .submitted) j q d .1) i e);
-      submitted = λ i q e. still-submitted g q
-          (⊎-elim (λ h. loc .common .submitted i q h) (λ h. missing-at noted (r .submitted) (h .0) q (h .2) .0)
-          (nth-app-inv noted (missing noted (r .submitted)) i e));
-    }
-  where
-    ags : List Content
-    ags = r .counter (switchLeader kit) ag
+-- a correct switch leader that holds no history builds one
+module _ (kit : Kit) (roles : Roles kit) (r : Room) (a : Invariant kit r) (fs : isMarkedFaulty kit (switchLeader kit) ≡ false)
+    (free : r .replica (switchLeader kit) .held ≡ none) where
+  abbrev builder : Replica
+  builder = r .replica (switchLeader kit)
 
-    noted : List ℕ
-    noted = r .replica (switchLeader kit) .noted
+  abbrev ags : List Content
+  ags = r .counter (switchLeader kit) ag
 
-    loc : Part kit r (switchLeader kit) (r .replica (switchLeader kit)) (r .counter (switchLeader kit) ag) (r .counter (switchLeader kit) up)
-    loc = a .part (switchLeader kit) fs
+  abbrev ups : List Content
+  ups = r .counter (switchLeader kit) up
 
-    av : Active kit r (switchLeader kit) (r .replica (switchLeader kit)) (r .counter (switchLeader kit) ag) (r .counter (switchLeader kit) up)
-        (settledCount kit (switchLeader kit) (r .replica (switchLeader kit)) (length (r .counter (switchLeader kit) ag)))
-    av = loc .active (roles .switch-active)
+  abbrev number : ℕ
+  number = length (r .histories)
 
-next-afterBuild : (kit : Kit) → Roles kit → (r : Room) → Invariant kit r → isMarkedFaulty kit (switchLeader kit) ≡ false
-    → isRunning (r .replica (switchLeader kit) .condition) ≡ false → r .replica (switchLeader kit) .held ≡ none → Next kit r (afterBuild kit r)
-unfolding afterBuild built issue withReplica withHistory hold settledCount
-next-afterBuild kit roles r a fs run free =
-    next-move kit s a v refl
-    (λ f. record {
-      common = common-hold kit p h run wk (common-grows kit (v .grows) (loc .common));
-      active = λ e. rw same (active-grows kit (v .grows) (active-build kit p (r .counter s ag) (r .counter s up)
-          (settledCount kit s p (length (r .counter s ag))) h free av));
-      passive = λ e. no-way (cc (roles .switch-active));
-      ag-few = omega (arith, av .ag-total free, length-snoc (r .counter s ag) (History h));
-      up-few = omega (
-        arith,
-        av .ag-total free,
-        av .up-total free,
-        settledCount-own kit s p (length (r .counter s ag))
-            (roles .switch-active),
-        length-snoc (r .counter s up) (History h),
-      );
-    })
-    (λ f. grows-open kit s v ok ok op op
-    (settledNoted-rises kit s p (hold p h) (length (r .counter s ag)) (length (r .counter s ag ++ (History h ∷ []))) (λ i q e. e)
-    (settledCount-rises kit s p (hold p h) (length (r .counter s ag)) (length (r .counter s ag ++ (History h ∷ [])))
-    (omega (arith, length-snoc (r .counter s ag) (History h))) (λ y m. omega arith))))
-  where
-    s : ℕ
-    s = switchLeader kit
+  abbrev rest : List ℕ
+  rest = missing (builder .noted) (r .submitted)
 
-    h : ℕ
-    h = length (r .histories)
+  abbrev count : ℕ
+  count = settledCount kit (switchLeader kit) builder (length ags)
 
-    p : Replica
-    p = r .replica s
+  own : Part kit r (switchLeader kit) builder ags ups
+  own = a .part (switchLeader kit) fs
 
-    loc : Part kit r s p (r .counter s ag) (r .counter s up)
-    loc = a .part s fs
+  shown : Active kit r (switchLeader kit) builder ags ups count
+  shown = own .active (roles .switch-active)
 
-    av : Active kit r s p (r .counter s ag) (r .counter s up) (settledCount kit s p (length (r .counter s ag)))
-    av = loc .active (roles .switch-active)
+  count-few : count ≤ length ags
+  count-few = settledCount-own kit (switchLeader kit) builder (length ags) (roles .switch-active)
 
-    -- HISTORY on ag settles nothing: of the leader it has accepted what it noted
-    same : settledCount kit s (hold p h) (length (r .counter s ag ++ (History h ∷ []))) ≡ settledCount kit s p (length (r .counter s ag))
-    same =
-        let l = kit .leader in
-        ap (settledCount kit s (hold p h)) (length-snoc (r .counter s ag) (History h))
-        ∙ settledCount-waits kit s (hold p h) (length (r .counter s ag)) l (roles .switch-active) (roles .active-listed l (roles .leader-active))
-        (λ z. roles .switch-not-leader (sym z))
-        (omega (arith, av .leader-accepted (roles .switch-not-leader) free, av .ag-total free))
+  fits : FilingBounds (built kit r)
+  unfolding built
+  fits =
+      record {
+        j-k = count-few;
+        k-list = omega (arith, length-append (builder .noted) rest, shown .ag-total free);
+        list-max = omega (
+          arith,
+          length-append (builder .noted) rest,
+          noted-missing (builder .noted) (r .submitted) (own .common .once) (own .common .submitted),
+          a .submissions .few,
+        );
+      }
 
-    fits : FilingBounds (built kit r)
-    fits = record {
-      j-k = settledCount-own kit s p (length (r .counter s ag)) (roles .switch-active);
-      k-list = omega (arith, length-append (p .noted) (missing (p .noted) (r .submitted)), av .ag-total free);
-      list-max = omega (
-        arith,
-        length-append (p .noted) (missing (p .noted) (r .submitted)),
-        noted-missing (p .noted) (r .submitted) (loc .common .once) (loc .common .submitted),
-        a .submissions .few,
-      );
-    }
+  moved : Moved r (afterBuild kit r) (switchLeader kit) (hold builder number) (ags ++ (History number ∷ [])) (ups ++ (History number ∷ []))
+  unfolding afterBuild issue withReplica withHistory
+  moved =
+      moved-sw (moved-up (moved-ag (moved-record (moved-file (moved-none r (switchLeader kit)) (built kit r) (r .filed) fits) (hold builder number))
+      (History number)) (History number)) (Switch number)
 
-    v : Moved r (afterBuild kit r) s (hold p h) (r .counter s ag ++ (History h ∷ [])) (r .counter s up ++ (History h ∷ []))
-    v = moved-sw (moved-up (moved-ag (moved-record (moved-file (moved-none r s) (built kit r) (r .filed) fits) (hold p h)) (History h))
-        (History h)) (Switch h)
+  -- what stands for its i-th request, i < k: that is one that it noted
+  first : (i : ℕ) → i < length ags → (nth (builder .noted) i ≡ some (getD (builder .noted ++ rest) i 0)) × (i < length (builder .noted))
+  first i l =
+      let small : i < length (builder .noted) = omega (arith, shown .ag-total free) in
+      (rw (List·getD-append (builder .noted) rest 0 i small) (nth-getD (builder .noted) i 0 small), small)
 
-    wk : Backed kit (afterBuild kit r) h
-    wk = built-backed kit roles r (afterBuild kit r) a (v .grows) fs free (nth-snoc (r .histories) (built kit r)) (v .ag-now)
+  -- what it builds has all that a hand asks for
+  pub built-sound : Sound kit (afterBuild kit r) number (built kit r)
+  unfolding built
+  built-sound =
+      record {
+        on-ag = rw (moved .ag-now) (nth-snoc ags (History number));
+        on-up = rw (moved .up-now, ← (shown .up-total free)) (nth-snoc ups (History number));
+        committed = λ i l. g .counters _ _ _ _ (shown .committed (roles .switch-not-leader) i _ (first i l .0));
+        prepared = λ i l. g .counters _ _ _ _ (shown .prepared i _ (first i l .0));
+        committed-by-all = λ i y l m d e.
+            let t = shown .commits-seen y d i
+            (omega (arith, settledCount-active kit (switchLeader kit) builder (length ags) y (roles .switch-active) m e)) in
+            let z : getD (builder .noted ++ rest) i 0 ≡ t .0 = cc (first i (omega (arith, count-few)) .0, t .1) in
+            rw z (g .counters _ _ _ _ (t .2));
+        updated = λ i l.
+            let t = shown .updates-marked i l in
+            let f = first i (omega (arith, count-few)) in
+            let z : getD (builder .noted ++ rest) i 0 ≡ t .0 = cc (f .0, t .1) in
+            rw (z, take-append-le (suc i) (builder .noted) rest (f .1)) (g .counters _ _ _ _ (t .2));
+        submitted = λ i q e.
+            still-submitted g q (⊎-elim (λ h. own .common .submitted i q h) (λ h. missing-at (builder .noted) (r .submitted) (h .0) q (h .2) .0)
+            (nth-app-inv (builder .noted) rest i e));
+        once = once-append (builder .noted) rest (own .common .once) (missing-once (builder .noted) (r .submitted) (a .submissions .once))
+            (λ i j q e d. not-holds (builder .noted) q (missing-at (builder .noted) (r .submitted) j q d .1) i e);
+      }
+    where
+      g : Grows r (afterBuild kit r)
+      g = moved .grows
 
-    ok : isFaulty (p .condition) ≡ false
-    ok = a .faulty-marked s ∙ fs
+  -- HISTORY on ag settles nothing: of the leader it has accepted what it noted
+  count-stays : settledCount kit (switchLeader kit) (hold builder number) (length (ags ++ (History number ∷ []))) ≡ count
+  unfolding hold settledCount
+  count-stays =
+      let l = kit .leader in
+      ap (settledCount kit (switchLeader kit) (hold builder number)) (length-snoc ags (History number))
+      ∙ settledCount-waits kit (switchLeader kit) (hold builder number) (length ags) l (roles .switch-active)
+      (roles .active-listed l (roles .leader-active)) (λ z. roles .switch-not-leader (sym z))
+      (omega (arith, shown .leader-accepted (roles .switch-not-leader) free, shown .ag-total free))
 
-    op : isClosed (p .condition) ≡ false
-    op = not-true-false (isClosed (p .condition)) (λ t. let z = loc .common .closed-holds t in no-way (cc (z .1)))
+  next-afterBuild : isRunning (builder .condition) ≡ false → Next kit r (afterBuild kit r)
+  unfolding hold
+  next-afterBuild run =
+      next-move kit (switchLeader kit) a moved refl
+      (λ f. record {
+        common = common-hold kit builder number run backed (common-grows kit (moved .grows) (own .common));
+        active = λ e. rw count-stays (active-grows kit (moved .grows) (active-build kit builder ags ups count number free shown));
+        passive = λ e. no-way (cc (roles .switch-active));
+        ag-few = omega (arith, shown .ag-total free, length-snoc ags (History number));
+        up-few = omega (arith, shown .ag-total free, shown .up-total free, count-few, length-snoc ups (History number));
+      })
+      (λ f. grows-open kit (switchLeader kit) moved ok ok op op
+      (settledNoted-rises kit (switchLeader kit) builder (hold builder number) (length ags) (length (ags ++ (History number ∷ []))) (λ i q e. e)
+      (omega (arith, count-stays))))
+    where
+      backed : Backed kit (afterBuild kit r) number
+      backed = sound-backed kit (built-filed kit r) (fits .k-list) built-sound
+
+      ok : isFaulty (builder .condition) ≡ false
+      ok = a .faulty-marked (switchLeader kit) ∙ fs
+
+      op : isClosed (builder .condition) ≡ false
+      op = not-true-false (isClosed (builder .condition)) (λ t. let z = own .common .closed-holds t in no-way (cc (z .1)))
 
 pub next-build : (kit : Kit) → Roles kit → (r : Room) → Invariant kit r → Next kit r (onBuild kit r .room)
 unfolding onBuild
@@ -233,4 +244,4 @@ next-build kit roles r a =
     next-refuse kit r a _ _ _ λ t.
     let rest = or-r (isFaulty (p .condition)) _ t in
     next-afterBuild kit roles r a (sym (a .faulty-marked (switchLeader kit)) ∙ or-l (isFaulty (p .condition)) _ t)
-    (or-l (isRunning (p .condition)) (isSome (p .held)) rest) (none-of (p .held) (or-r (isRunning (p .condition)) (isSome (p .held)) rest))
+    (none-of (p .held) (or-r (isRunning (p .condition)) (isSome (p .held)) rest)) (or-l (isRunning (p .condition)) (isSome (p .held)) rest)
