@@ -16,3 +16,5 @@ pub mod Events
 pub mod Moments
 pub mod Built
 pub mod Believed
+pub mod Standing
+pub mod BelievedRows

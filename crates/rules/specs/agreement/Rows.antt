@@ -18,7 +18,7 @@ use Rattle.rules.specs.Computing.{computing}
 use Rattle.rules.specs.agreement.Theorem.{settledAt, Correct}
 
 -- events with no gap between them
-abbrev atOnce : List Event → List Entry
+abbrev pub atOnce : List Event → List Entry
 atOnce [] = []
 atOnce (e ∷ es) = record { gap = 0; event = e; requests = [] } ∷ atOnce es
 
