@@ -1,4 +1,4 @@
-//! What edits of a kit have in common, whether of its idle time (`idle`) or of the order of its events (`exchange`).
+//! What edits of a kit have in common: of its idle time (`idle`), of the order of its events (`exchange`), of what is put in (`believed`).
 
 use crate::kit::{self, Event, Kit};
 use crate::play::Room;

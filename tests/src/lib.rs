@@ -1,6 +1,7 @@
 //! Document 01 written again, in plain Rust, to hold the proved programs against. It shares no text with them.
 
 pub mod agreement;
+pub mod believed;
 pub mod cases;
 pub mod edit;
 pub mod exchange;

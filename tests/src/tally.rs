@@ -1,11 +1,13 @@
 //! How often each kit number, each answer, each condition and each case was met.
 
 use crate::agreement::Agreement;
+use crate::believed;
 use crate::cases::{after_the_late_tick, clock, limits, refused, taken, Before, CASES};
 use crate::exchange;
 use crate::idle;
 use crate::kit::{self, Kit};
 use crate::play::{Condition, Room};
+use crate::random::Random;
 use std::collections::BTreeMap;
 use std::fmt::Write;
 
@@ -15,7 +17,7 @@ const CONDITIONS: [Condition; 4] = [Condition::Running, Condition::Halted, Condi
 
 /// Every case that a run has to meet.
 fn all_cases() -> impl Iterator<Item = &'static str> {
-    CASES.iter().chain(idle::CASES).chain(exchange::CASES).copied()
+    CASES.iter().chain(idle::CASES).chain(exchange::CASES).chain(believed::CASES).copied()
 }
 
 #[derive(Default)]
@@ -24,6 +26,7 @@ pub struct Tally {
     pub events: u64,
     pub edits: u64,
     pub exchanges: u64,
+    pub built: u64,
     kit_numbers: [u64; 10],
     answers: [u64; 25],
     conditions: [u64; 4],
@@ -92,6 +95,12 @@ impl Tally {
         exchange::check(pair, &mut |case| *self.cases.entry(case).or_insert(0) += 1)
     }
 
+    /// Counts a history that event 7 built, if the kit has one. Gives the first thing that is not as L12 says, if there is one.
+    pub fn believed(&mut self, trial: &believed::Trial, random: &mut Random) -> Result<(), String> {
+        self.built += u64::from(trial.built_at.is_some());
+        believed::check(trial, random, &mut |case| *self.cases.entry(case).or_insert(0) += 1)
+    }
+
     fn rows(&self) -> Vec<(String, u64)> {
         let kits = KIT_NUMBERS.iter().map(|&n| (format!("kit {n}"), self.kit_numbers[n]));
         let answers = ANSWERS.iter().map(|&n| (format!("answer {n}"), self.answers[n]));
@@ -108,9 +117,9 @@ impl Tally {
 
     pub fn report(&self) -> String {
         let mut out = String::new();
-        let Tally { kits, events, edits, exchanges, .. } = self;
-        writeln!(out, "{kits} kits, {events} events, {edits} edits of idle time, {exchanges} exchanges of two deliveries")
-            .unwrap();
+        let Tally { kits, events, edits, exchanges, built, .. } = self;
+        write!(out, "{kits} kits, {events} events, {edits} edits of idle time, ").unwrap();
+        writeln!(out, "{exchanges} exchanges of two deliveries, {built} built histories handed").unwrap();
         for (name, count) in self.rows() {
             writeln!(out, "{count:>10}  {name}").unwrap();
         }

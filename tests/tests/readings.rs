@@ -2,11 +2,12 @@
 
 mod common;
 use common::{after, answers, kit, last, number, FIVE, THREE};
+use model::believed::{self, trials};
 use model::exchange::{self, exchanges, with_answers_exchanged};
 use model::generator::protocol;
 use model::idle::{check, edits, without_line};
 use model::kit::{of_numbers, Action, Content, Kit, TICKS};
-use model::play::{Condition, Room};
+use model::play::{Condition, History, Room};
 use model::print::{kitplay, play_of};
 use model::random::Random;
 
@@ -332,6 +333,102 @@ fn l11_exchanged_kits_play_the_same() {
         }
     }
     assert!(pairs > 400, "{pairs} pairs");
+}
+
+/// f = 2 with a faulty passive replica: 0 leads, 1 is the switch leader, 2 is active, 3 and 4 are passive.
+const FAULTY_FOUR: &str = "f 2\nleader 0\npatience 10\nreplicas 1 1 1 0 2\n";
+
+/// There: the switch leader has committed to 7 and 5, settled 7 and not noted 9 when it builds.
+const COMMITTED: &str = "0 1 7 / 0 1 5 / 0 1 9 / 0 3 0 0 1 1 / 0 3 0 0 2 1 / 0 3 0 0 1 2 / 0 3 2 0 1 1 / 0 5 1 / 0 7";
+
+/// The history is taken at its own two values and at no others, right behind event 7 and later.
+#[test]
+fn l12_at_its_own_two_values() {
+    let hands = "0 5 2 / 0 4 3 1 2 / 0 4 3 2 2 / 0 1 8 / 0 5 3 / 0 4 3 2 3";
+    let events = format!("{COMMITTED} / {hands}");
+    assert_eq!(answers(FAULTY_FOUR, &events), [0, 0, 0, 0, 0, 0, 0, 0, 0, 0, 22, 0, 0, 0, 0]);
+    after(FAULTY_FOUR, &events, |room| {
+        assert_eq!(room.histories, [History { j: 1, k: 2, list: vec![7, 5, 9] }]);
+        assert_eq!([room.issued(1, 0, 3), room.issued(1, 1, 2)], [Some(Content::History(0)); 2]);
+        assert_eq!((room.counters[1][0].len(), room.counters[1][1].len()), (3, 2));
+        assert_eq!([0, 1, 2, 3, 4].map(|x| room.replicas[x].held), [None, Some(0), Some(0), Some(0), None]);
+        assert_eq!([2, 3].map(|x| room.issued(x, 2, 1)), [Some(Content::Switch(0)); 2]);
+    });
+    let hand = |values: &str, to: usize| last(FAULTY_FOUR, &format!("{COMMITTED} / 0 5 2 / 0 4 {values} {to}"));
+    assert_eq!(["1 1", "1 2", "2 1", "2 2", "3 1", "3 2"].map(|values| hand(values, 2)), [22, 22, 22, 22, 22, 0]);
+    assert_eq!(["4 2", "3 3", "0 2", "3 0", "4 1"].map(|values| hand(values, 2)), [15; 5]);
+    // to one that runs, to the builder, to a faulty one
+    assert_eq!([3, 1, 4].map(|to| hand("3 2", to)), [18, 17, 16]);
+}
+
+/// At that moment: the receivers are halted before event 7 comes, and the hand is the next event.
+#[test]
+fn l12_right_behind_event_7() {
+    let halted = COMMITTED.replace("0 5 1 / 0 7", "0 5 0 / 0 5 1 / 0 5 2 / 0 5 3 / 0 7");
+    assert_eq!([0, 2, 3].map(|to| last(FAULTY_FOUR, &format!("{halted} / 0 4 3 2 {to}"))), [0; 3]);
+    // nothing submitted: j = k = 0, an empty list
+    assert_eq!(answers(THREE, "0 5 2 / 0 5 1 / 0 7 / 0 4 1 1 2"), [0; 4]);
+    // 64 listed, noted or not
+    let many: String = (1..=64).map(|r| format!("0 1 {r} / ")).collect();
+    assert_eq!(last(THREE, &format!("{many} 0 5 2 / 0 5 1 / 0 7 / 0 4 1 1 2")), 0);
+    let noted: String = (1..=64).map(|r| format!("0 1 {r} / 0 3 0 0 {r} 1 / ")).collect();
+    assert_eq!(last(THREE, &format!("{noted} 0 5 2 / 0 5 1 / 0 7 / 0 4 65 65 2")), 0);
+}
+
+/// The leader runs on behind event 7, prepares 8 and settles what the history only commits to; it halts later, and takes it.
+#[test]
+fn l12_one_that_halts_later() {
+    let later = "0 3 0 0 2 2 / 0 3 1 0 1 0 / 0 3 1 0 2 0 / 0 3 2 0 1 0 / 0 3 2 0 2 0 / 0 1 8 / 30 4 3 2 0 / 0 5 0 / 0 4 3 2 0";
+    let events = format!("{COMMITTED} / {later}");
+    assert_eq!(answers(FAULTY_FOUR, &events)[9..], [0, 0, 0, 0, 0, 0, 18, 0, 0]);
+    after(FAULTY_FOUR, &events, |room| {
+        assert_eq!((room.settled(0), room.histories[0].j, room.late), ([7, 5].as_slice(), 1, Some(10)));
+        assert_eq!(room.replicas[0].noted, [7, 5, 9, 8]);
+        assert_eq!(room.replicas[0].held, Some(0));
+    });
+    // the builder has closed meanwhile
+    let closed = "0 5 1 / 0 7 / 0 5 0 / 0 4 1 1 0 / 0 3 0 2 1 1 / 9 5 2 / 0 4 1 1 2";
+    assert_eq!(answers(THREE, closed), [0; 7]);
+    assert_eq!(after(THREE, closed, |room| room.replicas[1].condition), Condition::Closed);
+}
+
+/// Others are filed before and behind it, twins too: it has its number, and a correct replica holds this one.
+#[test]
+fn l12_among_other_histories() {
+    let twin = "0 8 1 2 1 7 5 9";
+    let issued = |h: usize| format!("0 2 4 0 4 {h} 0 / 0 2 4 1 4 {h} 0 / 0 2 4 2 5 {h} 0");
+    let filed = COMMITTED.replace("0 5 1", &format!("0 8 0 0 0 / {twin} / {} / 0 5 1", issued(1)));
+    let events = format!("{filed} / {twin} / {} / 0 5 2 / 0 4 3 2 2 / 0 3 4 2 1 2 / 0 5 3 / 0 4 3 2 3", issued(3));
+    assert_eq!(answers(FAULTY_FOUR, &events)[14..], [0, 0, 0, 0, 0, 0, 21, 0, 0]);
+    after(FAULTY_FOUR, &events, |room| {
+        assert_eq!(room.histories.len(), 4);
+        assert!([1, 3].into_iter().all(|h| room.histories[h] == room.histories[2]));
+        assert_eq!([0, 1, 2, 3, 4].map(|x| room.replicas[x].held), [None, Some(2), Some(2), Some(2), None]);
+    });
+}
+
+/// A correct switch leader has issued no HISTORY before its event 7, so nobody is handed any.
+#[test]
+fn l12_nobody_holds_before_event_7() {
+    let filed = COMMITTED.replace(" / 0 7", " / 0 8 1 2 1 7 5 9 / 0 2 4 0 4 0 0 / 0 2 4 1 4 0 0 / 0 5 2");
+    let hand = |values: &str| last(FAULTY_FOUR, &format!("{filed} / 0 4 {values} 2"));
+    assert_eq!(["1 1", "2 1", "3 2", "2 2", "1 0"].map(hand), [22, 22, 15, 15, 15]);
+    after(FAULTY_FOUR, &format!("{filed} / 0 4 2 1 2"), |room| assert!(room.replicas.iter().all(|p| p.held.is_none())));
+}
+
+/// Built histories handed at every later moment, on kits that know the protocol; and what is held.
+#[test]
+fn l12_built_histories_are_believed() {
+    let mut built = 0;
+    for seed in 0..200 {
+        let mut random = Random::new(seed);
+        let kit = protocol::kit(&mut random);
+        for trial in trials(&kit, &mut random) {
+            assert_eq!(believed::check(&trial, &mut random, &mut |_| ()), Ok(()), "kit {seed}, {}", trial.event_7());
+            built += usize::from(trial.built_at.is_some());
+        }
+    }
+    assert!(built > 80, "{built} built");
 }
 
 #[test]

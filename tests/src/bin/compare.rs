@@ -3,10 +3,12 @@
 //! Held against the model: the programs that KITPLAY and KITROOM name (or --kitplay PATH, --kitroom PATH), on every M-th kit
 //! (--every M), and, built with the feature `library`, the library. Every kit is also checked for demand 3 at every moment, and, with its idle
 //! time cut, joined, and an idle of 0 put in and taken out, for what L9 says of the two kits, and with two deliveries exchanged for what L11 says;
-//! one kit of each is then played like the others.
+//! and for what L12 says, with the history that event 7 built, one of the kit or one put in, handed at every later moment. One kit of each is then
+//! played like the others.
 //! --from NUMBER starts at that kit. A kit on which two differ is made as short as it can be and put into target/differences.
 //! The report counts what was met; a run that did not meet everything fails.
 
+use model::believed;
 use model::exchange;
 use model::generator;
 use model::idle;
@@ -60,11 +62,20 @@ fn main() -> ExitCode {
         }
     };
     let fixed = if options.from == 0 { generator::fixed() } else { Vec::new() };
-    let mut run = Run { options, tally: Tally::default(), differences: 0, breaches: 0, breaches_of_l9: 0, breaches_of_l11: 0 };
+    let mut run = Run {
+        options,
+        tally: Tally::default(),
+        differences: 0,
+        breaches: 0,
+        breaches_of_l9: 0,
+        breaches_of_l11: 0,
+        breaches_of_l12: 0,
+    };
     for (i, bytes) in fixed.iter().enumerate() {
         run.take(format!("fixed-{i}"), bytes, i as u64);
         run.edit(format!("fixed-{i}"), bytes, i as u64);
         run.exchange(format!("fixed-{i}"), bytes, i as u64);
+        run.believe(format!("fixed-{i}"), bytes, i as u64);
     }
     for number in run.options.from..run.options.from + run.options.kits {
         let (seed, bytes) = (run.options.seed, generator::kit_bytes(run.options.seed, number));
@@ -72,6 +83,7 @@ fn main() -> ExitCode {
         run.take(format!("{seed}-{number}"), &bytes, number);
         run.edit(format!("{seed}-{number}"), &bytes, number);
         run.exchange(format!("{seed}-{number}"), &bytes, number);
+        run.believe(format!("{seed}-{number}"), &bytes, number);
     }
     run.verdict(fixed.len())
 }
@@ -83,6 +95,7 @@ struct Run {
     breaches: usize,
     breaches_of_l9: usize,
     breaches_of_l11: usize,
+    breaches_of_l12: usize,
 }
 
 impl Run {
@@ -146,6 +159,22 @@ impl Run {
         }
     }
 
+    /// Hands the history that event 7 built, one of the kit or one put in, at every later moment to each correct replica that holds none: the hand is
+    /// to be answered 0, and no correct replica is to hold another history. The kit with one such hand put in is then taken as the others are.
+    fn believe(&mut self, name: String, bytes: &[u8], number: u64) {
+        let Ok(kit) = kit::read(bytes) else { return };
+        let mut random = Random::new(self.options.seed.wrapping_mul(0x1_0000_0007).wrapping_add(number));
+        for trial in &believed::trials(&kit, &mut random) {
+            if let Err(what) = self.tally.believed(trial, &mut random) {
+                self.breaches_of_l12 += 1;
+                println!("kit {name}, {}: {what}", trial.event_7());
+            }
+            if let Some(handed) = &trial.handed {
+                self.take(format!("{name}-handed"), &kit::bytes(&handed.kit), number);
+            }
+        }
+    }
+
     fn verdict(&self, fixed: usize) -> ExitCode {
         print!("{}", self.tally.report());
         let missing = if self.options.from == 0 { self.tally.missing() } else { Vec::new() };
@@ -153,16 +182,18 @@ impl Run {
             println!("never met: {what}");
         }
         println!(
-            "{fixed} fixed kits and {} others of seed {}: {} differences, {} breaches of demand 3, {} of L9, {} of L11, {} cases not met",
+            "{fixed} fixed kits and {} others of seed {}: {} differences, {} breaches of demand 3, {} of L9, {} of L11, {} of L12, {} cases not met",
             self.tally.kits,
             self.options.seed,
             self.differences,
             self.breaches,
             self.breaches_of_l9,
             self.breaches_of_l11,
+            self.breaches_of_l12,
             missing.len()
         );
-        if self.differences + self.breaches + self.breaches_of_l9 + self.breaches_of_l11 + missing.len() == 0 {
+        let breaches = self.breaches + self.breaches_of_l9 + self.breaches_of_l11 + self.breaches_of_l12;
+        if self.differences + breaches + missing.len() == 0 {
             ExitCode::SUCCESS
         } else {
             ExitCode::FAILURE
