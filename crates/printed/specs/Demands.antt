@@ -1,5 +1,5 @@
--- The three demands on one page, over the bytes of an accepted kit, what an editor may do to it, and which two of its
--- deliveries may change places. Assumes nothing.
+-- The three demands on one page, over the bytes of an accepted kit, what an editor may do to it, which two of its deliveries may change places, and
+-- that a correct switch leader is believed in it. Assumes nothing.
 use mathlib.Core.Path.{_≡_, refl, _∙_}
 use mathlib.Core.Bool.{true}
 use mathlib.Core.Logic.{_⊎_, inl, inr}
@@ -34,6 +34,7 @@ use Rattle.printed.specs.Printed.{printedText}
 use Rattle.printed.specs.Theorem.{first-stage, is-fresh, play-printed}
 use Rattle.printed.specs.Edits.{bytesOf, EditorMay, editor-may}
 use Rattle.printed.specs.Exchanges.{OrderIsFree, order-is-free}
+use Rattle.printed.specs.Believed.{BuiltIsBelieved, built-is-believed}
 
 -- an event's number is 0, or 11 to 24
 abbrev pub EventNumber : ℕ → Type 0
@@ -84,6 +85,9 @@ pub record Demands (bytes : List ℕ) (kit : Kit) : Type 0 where
   pub editor : EditorMay kit
   -- two neighbouring deliveries at one tick, to different receivers, may change places if both certificates were issued before either
   pub order : OrderIsFree kit
+  -- a hand of the history that event 7 built, with its own two values, is answered 0 at every later moment by every halted replica that holds none,
+  -- the builder excepted; and where the switch leader is correct no correct replica holds another
+  pub believed : BuiltIsBelieved kit
 
 refused-ticks : (kit : Kit) (n : ℕ) (e : Entry) → nth (kit .events) n ≡ some e → (step kit (after kit n) e .answer ≡ Answer.Taken → ⊥)
     → after kit (suc n) ≡ tick kit (after kit n) (e .gap)
@@ -106,6 +110,7 @@ demands bytes are e =
       agree = settled-lists-agree kit (s .good);
       editor = editor-may kit spelled;
       order = order-is-free kit spelled;
+      believed = built-is-believed kit spelled;
     }
 
 -- a refused kit prints its number and nothing is played

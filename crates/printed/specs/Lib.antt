@@ -3,4 +3,5 @@ pub mod PrintedLaws
 pub mod Theorem
 pub mod Edits
 pub mod Exchanges
+pub mod Believed
 pub mod Demands

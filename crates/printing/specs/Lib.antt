@@ -6,3 +6,4 @@ pub mod PlayTextLaws
 pub mod Whole
 pub mod Without
 pub mod Exchanged
+pub mod HandedIn

@@ -18,3 +18,4 @@ pub mod Built
 pub mod Believed
 pub mod Standing
 pub mod BelievedRows
+pub mod HandedIn
