@@ -96,6 +96,8 @@ pub record SwitchLeaderBelieved (kit : Kit) : Type 0 where
   -- where the switch leader is correct, whatever a correct replica holds event 7 filed before; and there is one such event at most
   pub no-other : Correct kit (switchLeader kit) → (n x h : ℕ) → Correct kit x → after kit n .replica x .held ≡ some h → BuiltBefore kit n h
   pub one-build : (m n g h : ℕ) (a b : Filing) → BuiltAt kit m g a → BuiltAt kit n h b → (m ≡ n) × (g ≡ h) × (a ≡ b)
+  -- a faulty one never holds any
+  pub faulty-none : (n x : ℕ) → isMarkedFaulty kit x ≡ true → after kit n .replica x .held ≡ none
 
 -- ---- the first half
 
@@ -235,8 +237,7 @@ holds-with-it kit roles r a fs x h fx e =
     let backed = a .part x fx .common .held-backed h e in
     a .part (switchLeader kit) fs .active (roles .switch-active) .ag-history (backed .filing .k) h (backed .announced) .1
 
--- a faulty one holds none
-pub faulty-holds-none : (kit : Kit) (n x : ℕ) → isMarkedFaulty kit x ≡ true → after kit n .replica x .held ≡ none
+faulty-holds-none : (kit : Kit) (n x : ℕ) → isMarkedFaulty kit x ≡ true → after kit n .replica x .held ≡ none
 unfolding after play freshRoom freshReplica
 faulty-holds-none kit n x e = ap (λ (p : Replica). p .held) (after-keeps kit 0 n (omega arith) .untouched x (rw e))
 
@@ -246,4 +247,5 @@ switch-leader-believed kit good =
       believed = λ m number filing b. believed-now kit good b;
       no-other = λ fs n x h fx e. held-built kit h n (holds-with-it kit (roles kit good) (after kit n) (at-moment kit good n) fs x h fx e);
       one-build = one-build kit;
+      faulty-none = faulty-holds-none kit;
     }

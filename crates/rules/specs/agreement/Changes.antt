@@ -160,33 +160,33 @@ active-submit kit {r} {r₁} g p ags ups c q free er sub a =
     }
 
 -- c rises to d or stays
-pub active-rise : (kit : Kit) {r : Room} (x : ℕ) (p : Replica) (ags ups : List Content) (c d m : ℕ) → isActive kit x ≡ true → p .held ≡ none
-    → m ≡ nextMark (p .mark) (getD (p .noted) c 0) → isClosed (p .condition) ≡ false
+pub active-rise : (kit : Kit) {r : Room} (x : ℕ) (p : Replica) (ags ups : List Content) (c d m w : ℕ) → isActive kit x ≡ true → p .held ≡ none
+    → m ≡ nextMark (p .mark) (getD (p .noted) c 0) → w ≡ m → isClosed (p .condition) ≡ false
     → d ≡ settledCount kit x p (length ags) → d ≡ suc c
     → Active kit r x p ags ups c
-    → Active kit r x (withMark p m) ags (ups ++ (Update (getD (p .noted) c 0) m ∷ [])) (settledCount kit x (withMark p m) (length ags))
+    → Active kit r x (withMark p m) ags (ups ++ (Update (getD (p .noted) c 0) w ∷ [])) (settledCount kit x (withMark p m) (length ags))
 unfolding withMark settledNoted settledCount
-active-rise kit {r} x p ags ups c d m ax free em op ed eo a =
+active-rise kit {r} x p ags ups c d m w ax free em ew op ed eo a =
     record {
       prepared = a .prepared;
       committed = a .committed;
       ag-total = a .ag-total;
       leader-accepted = a .leader-accepted;
       commits-seen = a .commits-seen;
-      updates-settled = λ i q w e.
-          ⊎-elim (λ h. a .updates-settled i q w h)
+      updates-settled = λ i q k e.
+          ⊎-elim (λ h. a .updates-settled i q k h)
           (λ h. let u = a .up-total free in
           let b : i ≡ c = cc in
           let z : getD (p .noted) c 0 ≡ q = cc in
           take-nth (settledCount kit x p (length ags)) (p .noted) i (omega arith) (rw (b, ← z) (nth-getD (p .noted) c 0 within)))
           (nth-snoc-inv ups _ i e);
-      up-total = λ h. omega (arith, length-snoc ups (Update (getD (p .noted) c 0) m), a .up-total free);
+      up-total = λ h. omega (arith, length-snoc ups (Update (getD (p .noted) c 0) w), a .up-total free);
       mark-settled = λ h. rw (← ed, eo) marked;
       updates-marked = λ i l.
           split (ltb i c)
-          (λ t. let w = a .updates-marked i (ltb-true i c t) in (w .0, w .1, nth-append ups _ i (w .2)))
+          (λ t. let u = a .updates-marked i (ltb-true i c t) in (u .0, u .1, nth-append ups _ i (u .2)))
           (λ t. let z : i ≡ c = omega (arith, ltb-false i c t, ed, eo) in
-          (getD (p .noted) c 0, rw z (nth-getD (p .noted) c 0 within), rw (z, ← marked, ← (a .up-total free)) (nth-snoc ups _)));
+          (getD (p .noted) c 0, rw z (nth-getD (p .noted) c 0 within), rw (z, ← marked, ← ew, ← (a .up-total free)) (nth-snoc ups _)));
       ag-history = a .ag-history;
       up-history = history-none (p .held) ups _ free (λ h z. no-way (cc z)) (a .up-history);
     }

@@ -10,7 +10,7 @@ use lib.ListN.{length, getD}
 use lib.Dec.{eqb, ltb, leb}
 use borrow.Author.Tests.{ltb-true, ltb-false, eqb-true, eqb-false, leb-true, leb-false}
 use Rattle.terms.specs.Lists.{nth, holds, Sub, isSome}
-use Rattle.terms.specs.ListLaws.{no-way, pick-elim, and-l, and-r, or-l, or-r, not-was-false, not-was-true, nth-append, nth-snoc, nth-getD}
+use Rattle.terms.specs.ListLaws.{split, no-way, pick-elim, and-l, and-r, or-l, or-r, not-was-false, not-was-true, nth-append, nth-snoc, nth-getD}
 use Rattle.terms.specs.ListLaws.{length-snoc}
 use Rattle.terms.specs.Mark.{nextMark, markOf}
 use Rattle.terms.specs.Kit.{Kit}
@@ -42,49 +42,53 @@ unfolding refuse
 next-refuse kit r a true n o f = next-none kit r a
 next-refuse kit r a false n o f = f refl
 
--- the end of an event on ag: x has record p and has settled c; where its count is d = c + 1 now it settles one more
-next-settle : (kit : Kit) {r r₁ : Room} (x : ℕ) {p₀ : Replica} (p : Replica) {ags ups : List Content} (c d : ℕ) → Invariant kit r
-    → Moved r r₁ x p₀ ags ups → isActive kit x ≡ true
-    → p .held ≡ none → isRunning (r .replica x .condition) ≡ true → isRunning (p .condition) ≡ true → d ≡ settledCount kit x p (length ags) → c ≤ d
-    → d ≤ suc c
-    → Common kit r₁ p → Active kit r₁ x p ags ups c
-    → Sub (settledNoted kit x (r .replica x) (length (r .counter x ag))) (settledNoted kit x p (length ags)) → Next kit r (settle r₁ x p c d)
-unfolding settle withMark settledNoted settledCount
-next-settle kit {r} {r₁} x p {ags} {ups} c d a v ax free u₀ u₁ ed lo hi cm act₁ sub =
-    pick-elim (λ z. Next kit r z) (ltb c d)
-    (λ t. let v₁ = moved-up (moved-record v (withMark p m)) (Update q m) in
-    let g = grows-trans (grows-withReplica r₁ x (withMark p m)) (grows-issue (withReplica r₁ x (withMark p m)) x up (Update q m)) in
-    next-move kit x a v₁ (good₁ ∙ sym good₀)
-    (λ f. let act₂ = active-rise kit x p ags ups c d m ax free refl (running-open (p .condition) u₁) ed (omega (arith, ltb-true c d t)) act₁ in
-    let few = active-few kit x (withMark p m) ags (ups ++ (Update q m ∷ [])) ax free act₂ in
-    record {
-      common = common-grows kit g (common-same kit refl refl refl refl cm);
-      active = λ e. active-grows kit g act₂;
-      passive = λ e. no-way (cc);
-      ag-few = few .0;
-      up-few = few .1;
-    })
-    (λ f. grows-open kit x v₁ good₀ good₁ (running-open (r .replica x .condition) u₀) (running-open (p .condition) u₁) sub))
-    (λ t. let v₁ = moved-record v p in
-    let g = grows-withReplica r₁ x p in
-    let z : c ≡ settledCount kit x p (length ags) = omega (arith, ltb-false c d t) in
-    next-move kit x a v₁ (good₁ ∙ sym good₀)
-    (λ f. let act₂ : Active kit r₁ x p ags ups (settledCount kit x p (length ags)) = rw z at act₁ in
-    let few = active-few kit x p ags ups ax free act₂ in
-    record { common = common-grows kit g cm; active = λ e. active-grows kit g act₂; passive = λ e. no-way (cc); ag-few = few .0; up-few = few .1 })
-    (λ f. grows-open kit x v₁ good₀ good₁ (running-open (r .replica x .condition) u₀) (running-open (p .condition) u₁) sub))
-  where
-    q : ℕ
-    q = getD (p .noted) c 0
+-- the end of an event on ag: x has record p, has issued `ags` and `ups`, and has settled c, and its count is d now
+module _ (kit : Kit) {r r₁ : Room} (x : ℕ) {p₀ : Replica} (p : Replica) {ags ups : List Content} (c d : ℕ) (a : Invariant kit r)
+    (v : Moved r r₁ x p₀ ags ups) (ax : isActive kit x ≡ true) (free : p .held ≡ none) (u₀ : isRunning (r .replica x .condition) ≡ true)
+    (u₁ : isRunning (p .condition) ≡ true) (ed : d ≡ settledCount kit x p (length ags)) (cm : Common kit r₁ p) (act₁ : Active kit r₁ x p ags ups c)
+    (sub : Sub (settledNoted kit x (r .replica x) (length (r .counter x ag))) (settledNoted kit x p (length ags))) where
+  good₀ : isFaulty (r .replica x .condition) ≡ false
+  good₀ = running-correct (r .replica x .condition) u₀
 
-    m : ℕ
-    m = nextMark (p .mark) q
+  good₁ : isFaulty (p .condition) ≡ false
+  good₁ = running-correct (p .condition) u₁
 
-    good₀ : isFaulty (r .replica x .condition) ≡ false
-    good₀ = running-correct (r .replica x .condition) u₀
+  -- it is one more: x executes that request, its mark is m then, and its UPDATE says mark w
+  next-execute : (m w : ℕ) → m ≡ nextMark (p .mark) (getD (p .noted) c 0) → w ≡ m → d ≡ suc c
+      → Next kit r (issue (withReplica r₁ x (withMark p m)) x up (Update (getD (p .noted) c 0) w))
+  unfolding withMark settledNoted settledCount
+  next-execute m w em ew eo =
+      let update = Update (getD (p .noted) c 0) w in
+      let v₁ = moved-up (moved-record v (withMark p m)) update in
+      let g = grows-trans (grows-withReplica r₁ x (withMark p m)) (grows-issue (withReplica r₁ x (withMark p m)) x up update) in
+      next-move kit x a v₁ (good₁ ∙ sym good₀)
+      (λ f. let act₂ = active-rise kit x p ags ups c d m w ax free em ew (running-open (p .condition) u₁) ed eo act₁ in
+      let few = active-few kit x (withMark p m) ags (ups ++ (update ∷ [])) ax free act₂ in
+      record {
+        common = common-grows kit g (common-same kit refl refl refl refl cm);
+        active = λ e. active-grows kit g act₂;
+        passive = λ e. no-way (cc);
+        ag-few = few .0;
+        up-few = few .1;
+      })
+      (λ f. grows-open kit x v₁ good₀ good₁ (running-open (r .replica x .condition) u₀) (running-open (p .condition) u₁) sub)
 
-    good₁ : isFaulty (p .condition) ≡ false
-    good₁ = running-correct (p .condition) u₁
+  -- or it is as it was
+  next-unsettled : c ≡ d → Next kit r (withReplica r₁ x p)
+  unfolding settledNoted
+  next-unsettled eo =
+      let v₁ = moved-record v p in
+      let g = grows-withReplica r₁ x p in
+      next-move kit x a v₁ (good₁ ∙ sym good₀)
+      (λ f. let act₂ : Active kit r₁ x p ags ups (settledCount kit x p (length ags)) = rw (eo, ed) at act₁ in
+      let few = active-few kit x p ags ups ax free act₂ in
+      record { common = common-grows kit g cm; active = λ e. active-grows kit g act₂; passive = λ e. no-way (cc); ag-few = few .0; up-few = few .1 })
+      (λ f. grows-open kit x v₁ good₀ good₁ (running-open (r .replica x .condition) u₀) (running-open (p .condition) u₁) sub)
+
+  next-settle : c ≤ d → d ≤ suc c → Next kit r (settle r₁ x p c d)
+  unfolding settle
+  next-settle lo hi =
+      split (ltb c d) (λ t. rw t (next-execute _ _ refl (cc) (omega (arith, ltb-true c d t)))) (λ t. rw t (next-unsettled (omega (arith, ltb-false c d t))))
 
 -- ---- ag from the leader
 
@@ -105,12 +109,12 @@ unfolding afterPrepare accept note
 next-prepare kit r a v x q fx ax xl run ev ec es en =
     next-settle kit x p₁ (settledCount kit x p n) (settledCount kit x p₁ (suc n)) a (moved-ag (moved-none r x) (Commit q v)) ax free run run
     (ap (settledCount kit x p₁) (sym (length-snoc (r .counter x ag) (Commit q v))))
-    (settledCount-rises kit x p p₁ n (suc n) (omega arith) (λ y m. accepted-rises (p .accepted) (kit .leader) ag v y m ev))
-    (settledCount-by-one kit x p p₁ n (suc n) (omega arith) (λ y m. accepted-by-one (p .accepted) (kit .leader) ag v y m ev))
     (common-note kit g q refl refl refl (omega arith) (still-submitted g q es) en (loc .common))
     (active-prepare kit g x p (r .counter x ag) (r .counter x up) (settledCount kit x p n) q v xl free
     (ev ∙ ap suc (av .leader-accepted xl free)) (rw (av .leader-accepted xl free) at ec) sub av)
     sub
+    (settledCount-rises kit x p p₁ n (suc n) (omega arith) (λ y m. accepted-rises (p .accepted) (kit .leader) ag v y m ev))
+    (settledCount-by-one kit x p p₁ n (suc n) (omega arith) (λ y m. accepted-by-one (p .accepted) (kit .leader) ag v y m ev))
   where
     p : Replica
     p = r .replica x
@@ -145,11 +149,9 @@ next-commit : (kit : Kit) (r : Room) → Invariant kit r → (s v x b : ℕ) →
 unfolding afterCommit accept
 next-commit kit r a s v x b fx ax sl run ev ec en =
     next-settle kit x p₁ (settledCount kit x p n) (settledCount kit x p₁ n) a (moved-none r x) ax free run run
-    refl ups
-    (settledCount-by-one kit x p p₁ n n (omega arith) (λ y m. accepted-by-one (p .accepted) s ag v y m ev))
-    (common-same kit refl refl refl refl (loc .common))
+    refl (common-same kit refl refl refl refl (loc .common))
     (active-commit kit x p (r .counter x ag) (r .counter x up) (settledCount kit x p n) s b v sl ev en ec sub (loc .active ax))
-    sub
+    sub ups (settledCount-by-one kit x p p₁ n n (omega arith) (λ y m. accepted-by-one (p .accepted) s ag v y m ev))
   where
     p : Replica
     p = r .replica x

@@ -148,11 +148,20 @@ module _ (kit : Kit) (roles : Roles kit) (r : Room) (a : Invariant kit r) (fs : 
   count-few : count ≤ length ags
   count-few = settledCount-own kit (switchLeader kit) builder (length ags) (roles .switch-active)
 
+  -- HISTORY comes to stand at k+1 and j+1
+  at-k : nth (ags ++ (History number ∷ [])) (built kit r .k) ≡ some (History number)
+  unfolding built
+  at-k = nth-snoc ags (History number)
+
+  at-j : nth (ups ++ (History number ∷ [])) (built kit r .j) ≡ some (History number)
+  unfolding built
+  at-j = rw (← (shown .up-total free)) (nth-snoc ups (History number))
+
   fits : FilingBounds (built kit r)
   unfolding built
   fits =
       record {
-        j-k = count-few;
+        j-k = omega (arith, nth-lt (ups ++ (History number ∷ [])) (built kit r .j) at-j, length-snoc ups (History number), shown .up-total free, count-few);
         k-list = omega (arith, length-append (builder .noted) rest, shown .ag-total free);
         list-max = omega (
           arith,
@@ -179,8 +188,8 @@ module _ (kit : Kit) (roles : Roles kit) (r : Room) (a : Invariant kit r) (fs : 
   unfolding built
   built-sound =
       record {
-        on-ag = rw (moved .ag-now) (nth-snoc ags (History number));
-        on-up = rw (moved .up-now, ← (shown .up-total free)) (nth-snoc ups (History number));
+        on-ag = rw (moved .ag-now) at-k;
+        on-up = rw (moved .up-now) at-j;
         committed = λ i l. g .counters _ _ _ _ (shown .committed (roles .switch-not-leader) i _ (first i l .0));
         prepared = λ i l. g .counters _ _ _ _ (shown .prepared i _ (first i l .0));
         committed-by-all = λ i y l m d e.
