@@ -1,11 +1,13 @@
 //! The lesson kits: each is what its text says, prints what stands beside it, and teaches what its page says.
 
+use model::believed;
 use model::edit::after;
 use model::exchange::{check, Pair};
 use model::idle::without_line;
 use model::kit::{bytes, read, Action, Event, Kit};
-use model::play::Room;
+use model::play::{Condition, Room};
 use model::print::{kitplay, play_of};
+use model::random::Random;
 use model::text_form;
 use std::fs;
 use std::path::PathBuf;
@@ -13,8 +15,13 @@ use std::path::PathBuf;
 const LESSONS: [&str; 6] = ["clean", "late", "order", "switch", "faulty-leader", "faulty-switch-leader"];
 
 /// Kits that a page shows beside its own: the page, the kit.
-const BESIDE: [(&str, &str); 4] =
-    [("late", "late-panic"), ("late", "late-without-gaps"), ("order", "order-2-3"), ("order", "order-4-5")];
+const BESIDE: [(&str, &str); 5] = [
+    ("late", "late-panic"),
+    ("late", "late-without-gaps"),
+    ("order", "order-2-3"),
+    ("order", "order-4-5"),
+    ("switch", "switch-later"),
+];
 
 fn file(name: &str, kind: &str) -> Vec<u8> {
     let path = PathBuf::from(env!("CARGO_MANIFEST_DIR")).join("../kits/lessons").join(format!("{name}.{kind}"));
@@ -140,4 +147,30 @@ fn two_deliveries_to_one_replica() {
 /// The lesson `order`, and the kit with this event, counted from 1, and the next one exchanged.
 fn order(first: usize) -> Pair {
     Pair::new(kit("order"), first - 1, false)
+}
+
+/// Event 7 of `switch` and of `switch-later` is believed at every later moment.
+#[test]
+fn the_switch_leader_is_believed() {
+    for (name, place) in [("switch", 6), ("switch-later", 5)] {
+        let mut random = Random::new(7);
+        for trial in believed::trials(&kit(name), &mut random) {
+            assert_eq!(trial.built_at, Some(place));
+            assert_eq!(believed::check(&trial, &mut random, &mut |_| ()), Ok(()), "{name}");
+        }
+    }
+}
+
+/// In `switch-later` the others have closed and a third request is submitted, which the history does not have, before replica 2 halts. Other values
+/// than its own are 22, or 15 where one is not issued.
+#[test]
+fn handed_when_the_others_have_closed() {
+    let kit = kit("switch-later");
+    let room = after(&kit, 12);
+    let conditions: Vec<Condition> = room.replicas.iter().map(|p| p.condition).collect();
+    assert_eq!(conditions, [Condition::Closed, Condition::Closed, Condition::Halted]);
+    assert_eq!((room.submitted.len(), &room.histories[0].list), (3, &vec![7, 5]));
+    let hand = |ag: u32, up: u32| room.clone().step(&Event { gap: 0, action: Action::Hand { ag, up, to: 2 } });
+    let answers: Vec<u32> = (0..4).flat_map(|ag| (0..4).map(move |up| (ag, up))).map(|(ag, up)| hand(ag, up)).collect();
+    assert_eq!(answers, [15, 15, 15, 15, 15, 22, 22, 15, 15, 22, 0, 15, 15, 15, 15, 15]);
 }
