@@ -1,7 +1,7 @@
 //! A correct switch leader is believed (document 02, L12): the history that event 7 built, handed with its own two values at any later moment to any
 //! correct replica that is halted, holds none and did not build it, is answered 0; and where the switch leader is correct, no correct replica ever
-//! holds another. Both are tried after every event of a kit, none left out. Where no event 7 of a kit is taken, one that is taken is put in; and the
-//! hand is put into a kit that has one.
+//! holds another. Both are tried after every event of a kit, none left out. Where a correct switch leader builds nothing, an event 7 that is taken is
+//! put in; and the hand is put into a kit that has one. What no longer fits into a kit is not put in.
 
 use crate::edit::{after, number, replaced, same_room, ticks_left};
 use crate::kit::{Action, Content, Event, Kit, EVENTS, TICKS};
@@ -407,13 +407,11 @@ fn moment_cases(room: &Room, built: &Built, [first, last]: [bool; 2], meet: &mut
     if room.replicas[s].condition == Condition::Closed {
         meet("believed: after the builder closed");
     }
-    if room.counters[leader] != built.then.counters[leader] {
-        let correct = is_correct(room, leader);
-        meet(if correct {
-            "believed: after a correct leader prepared more"
-        } else {
-            "believed: after a faulty leader issued more"
-        });
+    if is_correct(room, leader) && room.counters[leader][AG].len() > built.then.counters[leader][AG].len() {
+        meet("believed: after a correct leader prepared more");
+    }
+    if !is_correct(room, leader) && room.counters[leader] != built.then.counters[leader] {
+        meet("believed: after a faulty leader issued more");
     }
 }
 

@@ -341,7 +341,7 @@ const FAULTY_FOUR: &str = "f 2\nleader 0\npatience 10\nreplicas 1 1 1 0 2\n";
 /// There: the switch leader has committed to 7 and 5, settled 7 and not noted 9 when it builds.
 const COMMITTED: &str = "0 1 7 / 0 1 5 / 0 1 9 / 0 3 0 0 1 1 / 0 3 0 0 2 1 / 0 3 0 0 1 2 / 0 3 2 0 1 1 / 0 5 1 / 0 7";
 
-/// The history is taken at its own two values and at no others, right behind event 7 and later.
+/// The history is taken at its own two values and at no others, soon after event 7 and later.
 #[test]
 fn l12_at_its_own_two_values() {
     let hands = "0 5 2 / 0 4 3 1 2 / 0 4 3 2 2 / 0 1 8 / 0 5 3 / 0 4 3 2 3";

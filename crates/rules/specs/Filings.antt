@@ -202,13 +202,16 @@ unfolding refuse
 not-refused true a r o d e = absurd (d e)
 not-refused false a r o d e = refl
 
--- taken, the switch leader holds a history
+-- taken, the switch leader holds the history that it filed
+pub built-held : (kit : Kit) (r : Room) → afterBuild kit r .replica (switchLeader kit) .held ≡ some (length (r .histories))
+unfolding afterBuild issue withReplica hold
+built-held kit r = rw (eqb-same (switchLeader kit))
+
 build-holds : (kit : Kit) (r : Room) → onBuild kit r .answer ≡ Taken → (h : ℕ) × (onBuild kit r .room .replica (switchLeader kit) .held ≡ some h)
-unfolding onBuild afterBuild issue withReplica hold
+unfolding onBuild
 build-holds kit r e = (
   length (r .histories),
-  ap (λ (o : Outcome). o .room .replica (switchLeader kit) .held) (not-refused _ _ r _ (λ z. no-way (cc)) e) ∙ rw
-      (eqb-same (switchLeader kit)),
+  ap (λ (o : Outcome). o .room .replica (switchLeader kit) .held) (not-refused _ _ r _ (λ z. no-way (cc)) e) ∙ built-held kit r,
 )
 
 -- and while it holds one, event 7 is refused

@@ -1,7 +1,7 @@
 -- Demand 3 of document 01: settled lists agree. Open Theorem first; Closing says what the fall-back keeps, Bounds how long everything can get, and
 -- Rows that none of it is empty. The proof: Invariant and what it says of one room (OneRoom); one replica's part through each change (Changes), from
 -- there to the room (Frame), and every event (Delivery, Handover, Events) at every moment (Moments). Standing says what the invariant says of a
--- replica's mark, UPDATEs and accepted COMMITs. On the same invariant stands that a correct switch leader is believed: open Believed; Sound is a history
+-- replica's settled count, mark, UPDATEs and accepted COMMITs. On the same invariant stands that a correct switch leader is believed: open Believed; Sound is a history
 -- that has all that a hand asks for, Built is event 7 in a play, HandedIn a kit into which a hand is put, and BelievedRows has plays. Assumes nothing.
 pub mod Theorem
 pub mod Closing

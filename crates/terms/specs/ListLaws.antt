@@ -2,7 +2,7 @@
 use mathlib.Core.Path.{_≡_, refl, sym, ap, _∙_}
 use mathlib.Core.Bool.{Bool, true, false, not, _&&_, _||_, or-true}
 use mathlib.Core.Logic.{_⊎_, inl, inr, ⊎-elim, _≢_}
-use mathlib.Core.Option.{some}
+use mathlib.Core.Option.{none, some}
 use mathlib.Core.List.{List, [], _∷_, _++_}
 use Prim.Native.Nat.{ℕ, zero, suc, _+_, _≤_, _<_}
 use native.Mathlib.Nat.{le-of-suc-le-suc}
@@ -68,6 +68,17 @@ module _ {ℓ} {A : Type ℓ} where
   nth-in [] i h = absurd (omega arith)
   nth-in (x ∷ xs) zero h = (x, refl)
   nth-in (x ∷ xs) (suc i) h = nth-in xs i (le-of-suc-le-suc h)
+
+  -- a list with something at each place below n has n elements, one with nothing at place i has no more than i
+  pub nth-full : (l : List A) (n : ℕ) → ((i : ℕ) → i < n → (a : A) × (nth l i ≡ some a)) → n ≤ length l
+  nth-full l n f =
+      split (ltb (length l) n)
+      (λ t. let h = f (length l) (ltb-true (length l) n t) in absurd (omega (arith, nth-lt l (length l) (h .1))))
+      (λ t. ltb-false (length l) n t)
+
+  pub nth-none : (l : List A) (i : ℕ) → nth l i ≡ none → length l ≤ i
+  nth-none l i e =
+      split (ltb i (length l)) (λ t. let h = nth-in l i (ltb-true i (length l) t) in no-way (cc (h .1, e))) (λ t. ltb-false i (length l) t)
 
   pub nth-snoc : (l : List A) (a : A) → nth (l ++ (a ∷ [])) (length l) ≡ some a
   nth-snoc [] a = refl

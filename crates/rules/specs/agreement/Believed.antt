@@ -86,7 +86,7 @@ pub record Believed (kit : Kit) (n number : ℕ) (filing : Filing) : Type 0 wher
   pub halts-first : (p q : ℕ) → OwnValues kit (after kit n) number p q
       → (to : ℕ) → to ≢ switchLeader kit → after kit n .replica to .condition ≡ Running → (gap gap₁ : ℕ) (list list₁ : List ℕ)
       → step kit (step kit (after kit n) (panicking gap to list) .room) (handing gap₁ p q to list₁) .answer ≡ Taken
-  -- any other two values of the two counters are answered 22
+  -- any other two issued values of the two counters are answered 22
   pub others-refused : (p q : ℕ) → IssuedAt kit (after kit n) ag p → IssuedAt kit (after kit n) up q → (p ≡ suc (filing .k) → q ≡ suc (filing .j) → ⊥)
       → (to : ℕ) → Receiver kit (after kit n) to → (gap : ℕ) (list : List ℕ) → step kit (after kit n) (handing gap p q to list) .answer ≡ NotValid
 

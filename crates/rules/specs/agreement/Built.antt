@@ -4,20 +4,21 @@ use mathlib.Core.Path.{_≡_, refl, sym, ap, _∙_}
 use mathlib.Core.Bool.{Bool, true, false, _||_}
 use mathlib.Core.Logic.{⊎-elim}
 use mathlib.Core.Option.{Option, none, some}
-use mathlib.Core.List.{List, [], _∷_}
+use mathlib.Core.List.{List}
 use Prim.Native.Nat.{ℕ, zero, suc, _<_}
 use native.Mathlib.Omega.{arith}
-use lib.ListN.{length, take}
+use lib.ListN.{length}
+use lib.Seq.{take-all}
 use borrow.Author.Tests.{eqb-false}
 use Rattle.terms.specs.Lists.{nth, isSome}
-use Rattle.terms.specs.ListLaws.{split, no-way, tri, eqb-same, nth-snoc, or-l, or-r}
+use Rattle.terms.specs.ListLaws.{split, no-way, tri, nth-none, nth-snoc, or-l, or-r}
 use Rattle.terms.specs.Kit.{Kit, Entry}
 use Rattle.terms.specs.declared.Event.{Event}
 use Rattle.terms.specs.declared.Event.the-variants.{Submit, Issue, Deliver, Hand, Panic, Idle, Build, File}
 use Rattle.terms.specs.declared.Answer.{Answer}
 use Rattle.terms.specs.declared.Answer.the-variants.{Taken}
 use Rattle.rules.specs.Table.{switchLeader}
-use Rattle.rules.specs.Room.{Room, Replica, Filing, freshRoom, freshReplica, withReplica, withHistory, issue, hold}
+use Rattle.rules.specs.Room.{Room, Replica, Filing, freshRoom, freshReplica, withReplica, withHistory, issue}
 use Rattle.rules.specs.RoomLaws.{replica-other}
 use Rattle.rules.specs.Reading.{isRunning, isFaulty}
 use Rattle.rules.specs.Clock.{tick}
@@ -27,7 +28,7 @@ use Rattle.rules.specs.Switching.{built, afterBuild, onBuild, afterHand,
 use Rattle.rules.specs.Play.{onEvent, step, play, after, answer}
 use Rattle.rules.specs.Growth.{after-suc}
 use Rattle.rules.specs.Holding.{calm-submit, calm-deliver, calm-panic, calm-faulty-issue, none-of, step-keeps}
-use Rattle.rules.specs.Filings.{build-once}
+use Rattle.rules.specs.Filings.{built-held, build-once}
 use Rattle.rules.specs.laws.Refused.{tick-ticked}
 
 -- an event 7; in a good kit its list is empty
@@ -68,10 +69,6 @@ module _ (kit : Kit) (r : Room) where
   pub built-filed : nth (afterBuild kit r .histories) (length (r .histories)) ≡ some (built kit r)
   unfolding afterBuild issue withReplica withHistory
   built-filed = nth-snoc (r .histories) (built kit r)
-
-  built-held : afterBuild kit r .replica (switchLeader kit) .held ≡ some (length (r .histories))
-  unfolding afterBuild issue withReplica withHistory hold
-  built-held = rw (eqb-same (switchLeader kit))
 
   -- a room in which event 7 is taken
   pub record CanBuild : Type 0 where
@@ -164,15 +161,11 @@ module _ (kit : Kit) where
   event-builds r (File j k) list h free e = no-way (cc (holding-file r j k list, free, e))
 
 -- a moment past the last event is the moment of the last
-take-end : (l : List Entry) (n : ℕ) → nth l n ≡ none → take (suc n) l ≡ take n l
-take-end [] zero e = refl
-take-end [] (suc n) e = refl
-take-end (x ∷ l) zero e = no-way (cc)
-take-end (x ∷ l) (suc n) e = ap (λ (z : List Entry). x ∷ z) (take-end l n e)
-
 after-end : (kit : Kit) (n : ℕ) → nth (kit .events) n ≡ none → after kit (suc n) ≡ after kit n
 unfolding after
-after-end kit n e = ap (λ (l : List Entry). play kit (freshRoom kit) l) (take-end (kit .events) n e)
+after-end kit n e =
+    let all = nth-none (kit .events) n e in
+    ap (play kit (freshRoom kit)) (take-all (suc n) (kit .events) (omega arith) ∙ sym (take-all n (kit .events) all))
 
 module _ (kit : Kit) (h : ℕ) where
   later-built : (n : ℕ) → BuiltBefore kit n h → BuiltBefore kit (suc n) h

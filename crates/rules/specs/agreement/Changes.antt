@@ -11,7 +11,7 @@ use lib.Seq.{take-append-le}
 use lib.Dec.{eqb, ltb}
 use borrow.Author.Tests.{ltb-true, ltb-false, eqb-true}
 use Rattle.terms.specs.Lists.{nth, holds, Sub}
-use Rattle.terms.specs.ListLaws.{split, no-way, same?, nth-append, nth-lt, nth-snoc, nth-snoc-inv, take-nth, nth-getD}
+use Rattle.terms.specs.ListLaws.{split, no-way, same?, nth-append, nth-full, nth-snoc, nth-snoc-inv, take-nth, nth-getD}
 use Rattle.terms.specs.ListLaws.{length-snoc, once-snoc}
 use Rattle.terms.specs.Mark.{nextMark, markOf}
 use Rattle.terms.specs.MarkLaws.{mark-next}
@@ -56,20 +56,13 @@ history-now held issued n free w i h e =
     ⊎-elim (λ t. no-way (cc (w i h t .1, free))) (λ t. (omega (arith, t .0, length-snoc issued (History n)), cc (t .1)))
     (nth-snoc-inv issued (History n) i e)
 
--- where each place below n has a request noted, n requests are noted
-noted-below : (noted : List ℕ) (n : ℕ) → ((i : ℕ) → i < n → (q : ℕ) × (nth noted i ≡ some q)) → n ≤ length noted
-noted-below noted n f =
-    split (ltb (length noted) n)
-    (λ t. let h = f (length noted) (ltb-true (length noted) n t) in absurd (omega (arith, nth-lt noted (length noted) (h .1))))
-    (λ t. ltb-false (length noted) n t)
-
 module _ {kit : Kit} {r : Room} {x : ℕ} {p : Replica} {ags ups : List Content} {c : ℕ} (a : Active kit r x p ags ups c) where
   -- what it has accepted of another than the leader, and what it has settled, it has noted
   pub seen-within : (y : ℕ) → y ≢ kit .leader → p .accepted y ag ≤ length (p .noted)
-  seen-within y d = noted-below (p .noted) (p .accepted y ag) (λ i l. let t = a .commits-seen y d i l in (t .0, t .1))
+  seen-within y d = nth-full (p .noted) (p .accepted y ag) (λ i l. let t = a .commits-seen y d i l in (t .0, t .1))
 
   pub settled-within : c ≤ length (p .noted)
-  settled-within = noted-below (p .noted) c (λ i l. let t = a .updates-marked i l in (t .0, t .1))
+  settled-within = nth-full (p .noted) c (λ i l. let t = a .updates-marked i l in (t .0, t .1))
 
   -- a request more is noted: the mark and the UPDATEs are of those before it
   module _ (q : ℕ) where
@@ -159,7 +152,7 @@ active-submit kit {r} {r₁} g p ags ups c q free er sub a =
       up-history = a .up-history;
     }
 
--- c rises to d or stays
+-- c rises to d: x executes request c, its mark is m then, and its UPDATE says mark w, which is the same
 pub active-rise : (kit : Kit) {r : Room} (x : ℕ) (p : Replica) (ags ups : List Content) (c d m w : ℕ) → isActive kit x ≡ true → p .held ≡ none
     → m ≡ nextMark (p .mark) (getD (p .noted) c 0) → w ≡ m → isClosed (p .condition) ≡ false
     → d ≡ settledCount kit x p (length ags) → d ≡ suc c
@@ -346,4 +339,4 @@ passive-accept kit {r} p p₁ s v q m sub ep ea ev en eu a =
     }
 
 pub passive-within : (kit : Kit) {r : Room} (p : Replica) (y : ℕ) → Passive kit r p → p .accepted y up ≤ length (p .noted)
-passive-within kit p y a = noted-below (p .noted) (p .accepted y up) (λ i l. let t = a .updated y i l in (t .0, t .2))
+passive-within kit p y a = nth-full (p .noted) (p .accepted y up) (λ i l. let t = a .updated y i l in (t .0, t .2))

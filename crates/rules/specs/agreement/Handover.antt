@@ -1,4 +1,5 @@
--- Building a history and handing it over keep the invariant: what a correct replica holds is backed. Assumes nothing.
+-- Building a history and handing it over keep the invariant: what a correct switch leader builds is sound, and what a correct replica holds is backed.
+-- Assumes nothing.
 use mathlib.Core.Path.{_≡_, refl, sym, ap, _∙_}
 use mathlib.Core.Bool.{true, false, or-true}
 use mathlib.Core.Logic.{⊎-elim}
@@ -157,6 +158,7 @@ module _ (kit : Kit) (roles : Roles kit) (r : Room) (a : Invariant kit r) (fs : 
   unfolding built
   at-j = rw (← (shown .up-total free)) (nth-snoc ups (History number))
 
+  -- and so j is at most k: no more is settled than committed
   fits : FilingBounds (built kit r)
   unfolding built
   fits =

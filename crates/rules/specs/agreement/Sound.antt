@@ -75,7 +75,7 @@ module _ (kit : Kit) {r : Room} {number : ℕ} {filing : Filing} (v : Sound kit 
       (v .committed-by-all i y l (holds-at (actives kit) n y e) (eqb-false y (kit .leader) t) (eqb-false y (switchLeader kit) u))))))
       (isContent-self (v .updated i l))
 
-  pub sound-passes : isValid kit r (suc (filing .k)) (suc (filing .j)) number filing ≡ true
+  sound-passes : isValid kit r (suc (filing .k)) (suc (filing .j)) number filing ≡ true
   unfolding isValid
   sound-passes =
       and-both (isContent-self (v .on-ag)) (and-both (isContent-self (v .on-up))
