@@ -36,7 +36,8 @@ use Rattle.rules.specs.agreement.OneRoom.{backed-one}
 use Rattle.rules.specs.agreement.Events.{next-tick}
 use Rattle.rules.specs.agreement.Moments.{at-moment}
 use Rattle.rules.specs.agreement.Theorem.{Correct}
-use Rattle.rules.specs.agreement.Sound.{Sound, sound-grows, sound-hands, sound-backed}
+use Rattle.rules.specs.agreement.Sound.{Sound, sound-grows, sound-backed}
+use Rattle.rules.specs.agreement.Passes.{sound-hands}
 use Rattle.rules.specs.agreement.Handover.{validFiling-backed, built-sound}
 use Rattle.rules.specs.agreement.Built.{BuiltAt, BuiltBefore, one-build, found, could-build, left, found-number, filing-is, held-built}
 

@@ -149,6 +149,13 @@ module _ (kit : Kit) (roles : Roles kit) (r : Room) (a : Invariant kit r) (fs : 
   count-few : count ≤ length ags
   count-few = settledCount-own kit (switchLeader kit) builder (length ags) (roles .switch-active)
 
+  -- its first k requests are those that it noted
+  first : (i : ℕ) → i < length ags → (nth (builder .noted) i ≡ some (getD (built kit r .list) i 0)) × (i < length (builder .noted))
+  unfolding built
+  first i l =
+      let small : i < length (builder .noted) = omega (arith, shown .ag-total free) in
+      (rw (List·getD-append (builder .noted) rest 0 i small) (nth-getD (builder .noted) i 0 small), small)
+
   -- HISTORY comes to stand at k+1 and j+1
   at-k : nth (ags ++ (History number ∷ [])) (built kit r .k) ≡ some (History number)
   unfolding built
@@ -178,12 +185,6 @@ module _ (kit : Kit) (roles : Roles kit) (r : Room) (a : Invariant kit r) (fs : 
   moved =
       moved-sw (moved-up (moved-ag (moved-record (moved-file (moved-none r (switchLeader kit)) (built kit r) (r .filed) fits) (hold builder number))
       (History number)) (History number)) (Switch number)
-
-  -- what stands for its i-th request, i < k: that is one that it noted
-  first : (i : ℕ) → i < length ags → (nth (builder .noted) i ≡ some (getD (builder .noted ++ rest) i 0)) × (i < length (builder .noted))
-  first i l =
-      let small : i < length (builder .noted) = omega (arith, shown .ag-total free) in
-      (rw (List·getD-append (builder .noted) rest 0 i small) (nth-getD (builder .noted) i 0 small), small)
 
   -- what it builds has all that a hand asks for
   pub built-sound : Sound kit (afterBuild kit r) number (built kit r)
