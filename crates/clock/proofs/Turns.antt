@@ -12,7 +12,7 @@ use Rattle.terms.specs.Kit.{marksActive}
 use Rattle.rules.specs.Table.{activesFrom}
 use Rattle.rules.specs.Reading.{secondOf}
 use Rattle.ledger.specs.Ledger.{Places}
-use Rattle.clock.specs.Answered.{upValue, updatedBy, answeredAtOn}
+use Rattle.clock.specs.AnsweredOn.{upValue, updatedBy, answeredAtOn}
 use Rattle.clock.specs.Tick.{firstFrom}
 
 -- ---- every active replica: those from replica y on decide

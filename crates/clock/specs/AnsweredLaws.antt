@@ -12,16 +12,16 @@ use Rattle.terms.specs.ListLaws.{split, not-true-false, nth-lt, holds-nth, allO
 use Rattle.terms.specs.Kit.{Kit, marksActive}
 use Rattle.terms.specs.declared.Content.{Content}
 use Rattle.rules.specs.Table.{up, activesFrom, actives}
-use Rattle.rules.specs.TableLaws.{Roles, roles}
+use Rattle.rules.specs.laws.TableLaws.{Roles, roles}
 use Rattle.rules.specs.Room.{Room}
 use Rattle.rules.specs.Reading.{answeredAt, answered}
-use Rattle.rules.specs.ReadingLaws.{isContent-same}
+use Rattle.rules.specs.laws.ReadingLaws.{isContent-same}
 use Rattle.ledger.specs.LedgerLayout.{choiceOf, layLedger, layIssued}
 use Rattle.ledger.specs.LedgerLaws.{look-laid}
 use Rattle.replica.specs.RecordLaws.{actives-laid}
 use Rattle.room.specs.Layout.{layTable}
 use Rattle.room.specs.Bounds.{Bounds}
-use Rattle.clock.specs.Answered.{chosen, upValue, hasUpdated, updatedBy, answeredAtOn, answeredOn}
+use Rattle.clock.specs.AnsweredOn.{chosen, upValue, hasUpdated, updatedBy, answeredAtOn, answeredOn}
 
 chosen-choice : (content : Option Content) → chosen (choiceOf content) ≡ content
 chosen-choice none = refl

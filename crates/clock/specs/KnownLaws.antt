@@ -14,7 +14,7 @@ use Rattle.terms.specs.Kit.{Kit}
 use Rattle.rules.specs.Room.{Room}
 use Rattle.rules.specs.Reading.{answered}
 use Rattle.rules.specs.Clock.{overdue}
-use Rattle.rules.specs.Growth.{Grows}
+use Rattle.rules.specs.laws.Growth.{Grows}
 use Rattle.rules.specs.laws.Answered.{answered-stays}
 use Rattle.clock.specs.Known.{Known}
 

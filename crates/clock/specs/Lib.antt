@@ -1,4 +1,4 @@
-pub mod Answered
+pub mod AnsweredOn
 pub mod AnsweredLaws
 pub mod Tick
 pub mod TickLaws

@@ -10,7 +10,7 @@ use Rattle.terms.specs.Lists.{pick}
 use Rattle.ledger.specs.Ledger.{Places}
 use Rattle.room.specs.declared.Desk.{Desk}
 use Rattle.room.specs.declared.Roles.{Roles}
-use Rattle.clock.specs.Answered.{answeredOn}
+use Rattle.clock.specs.AnsweredOn.{answeredOn}
 
 -- ticks are numbers of 64 bits
 unfoldable pub dueAt : ℕ → ℕ → ℕ

@@ -3,7 +3,7 @@
 ghost use mathlib.Core.Path.{_≡_};
 ghost use Rattle.terms.specs.declared.Content.the-variants.{Update};
 ghost use Rattle.rules.specs.Reading.{isContent, secondOf};
-ghost use Rattle.clock.specs.Answered.{chosen, updatedBy, answeredOn};
+ghost use Rattle.clock.specs.AnsweredOn.{chosen, updatedBy, answeredOn};
 ghost use Rattle.clock.specs.Tick.{dueAt, isDue, passed, firstOpen, tickOn};
 use ledger::Issued;
 use ledger::Ledger;

@@ -7,7 +7,7 @@ use native.Mathlib.Omega.{arith}
 use lib.ListN.{length, getD, set}
 use Rattle.ledger.specs.Ledger.{Book}
 use Rattle.replica.specs.declared.Replica.{Replica}
-use Rattle.effect.specs.Apply.{Applied}
+use Rattle.carry_out.specs.Apply.{Applied}
 
 -- the records and the counters after it
 pub record AppliedAll : Type 0 where

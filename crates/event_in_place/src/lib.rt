@@ -1,11 +1,11 @@
-// What one event does to the record that it concerns, where it stands: `effect::apply` on a record that is lent, alone or as one of the room's
+// What one event does to the record that it concerns, where it stands: `carry_out::apply` on a record that is lent, alone or as one of the room's
 // seven. All other records are untouched; the counters are lent on.
 ghost use mathlib.Core.Path.{_≡_};
 ghost use Rattle.ledger.specs.Ledger.{book};
-ghost use Rattle.effect.specs.Apply.{applied, applyOn};
+ghost use Rattle.carry_out.specs.Apply.{applied, applyOn};
 ghost use Rattle.event_in_place.specs.AppliedAt.{appliedAll, appliedAt};
-use effect::Heads;
-use effect::Lists;
+use carry_out::Heads;
+use carry_out::Lists;
 use ledger::Issued;
 use ledger::Ledger;
 use replica::Replica;
@@ -28,7 +28,7 @@ pub fn apply_in(
 )
     ensures { λ _. ⌜ applied (now (r .exit)) (book (now (ledger .exit)) (now (issued .exit))) ≡ applyOn (now (r .entry)) decision desk me roles (now (table .entry)) (now (heads .entry)) (now (lists .entry)) (book (now (ledger .entry)) (now (issued .entry))) ⌝ }
 {
-    *r = effect::apply(
+    *r = carry_out::apply(
         *r,
         decision,
         desk,

@@ -53,7 +53,7 @@ fn play_kit(kit: &[u8], count: usize) {
         return;
     }
     let mut out = [0u8; 131072];
-    let end = printed::printed_play(&kit[..count], &mut out);
+    let end = play_text::printed_play(&kit[..count], &mut out);
     io::write_all(STDOUT_FILENO, &out[..end]);
     io::write_all(STDOUT_FILENO, b"\n");
 }

@@ -11,6 +11,6 @@ fn main() {
     let mut bytes = [0u8; 65537];
     let n = io::read_full(STDIN_FILENO, &mut bytes);
     let mut out = [0u8; 131072];
-    let end = printed::printed_input(&bytes[..n], &mut out);
+    let end = play_text::printed_input(&bytes[..n], &mut out);
     io::write_all(STDOUT_FILENO, &out[..end]);
 }

@@ -7,7 +7,7 @@ use Rattle.number.specs.Number.{numberAt}
 use Rattle.number.specs.NumberLaws.{moves-on}
 use Rattle.number.specs.declared.Found.{Found}
 use Rattle.number.specs.declared.Found.the-variants.{Number, Cut, Bad}
-use Rattle.number_vectors.specs.Vectors.{placeAfter}
+use Rattle.number_vectors.specs.Tries.{placeAfter}
 
 after : (s : List ℕ) (at : ℕ) (found : Found) → numberAt s at ≡ found → at < length s → at < placeAfter (length s) found
 after s at (Number v next) e h = moves-on s at v next e .0

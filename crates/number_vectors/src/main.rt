@@ -6,7 +6,7 @@ ghost use Prim.Native.Nat.{_≤_};
 ghost use lib.ListN.{length};
 ghost use Rattle.io.specs.Counts.{Counts};
 ghost use Rattle.number.specs.Number.{numberAt};
-ghost use Rattle.number_vectors.specs.Vectors.{placeAfter};
+ghost use Rattle.number_vectors.specs.Tries.{placeAfter};
 use libc::STDOUT_FILENO;
 
 fn main() {

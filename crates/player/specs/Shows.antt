@@ -28,7 +28,7 @@ use Rattle.rules.specs.Deliver.{expectsPrepare, expectsCommit, expectsPair, exp
 use Rattle.rules.specs.Switching.{isValidFiling}
 use Rattle.rules.specs.Clock.{tick}
 use Rattle.rules.specs.Play.{onEvent, step, after, answer}
-use Rattle.rules.specs.Growth.{Grows, event-grows, after-suc}
+use Rattle.rules.specs.laws.Growth.{Grows, event-grows, after-suc}
 use Rattle.rules.specs.laws.Time.{step-clock}
 use Rattle.rules.specs.laws.Refused.{tick-ticked}
 use Rattle.replica.specs.declared.Replica.{Replica}
@@ -51,10 +51,10 @@ use Rattle.clock.specs.Clocked.{clockOn}
 use Rattle.clock.specs.Known.{Known}
 use Rattle.clock.specs.KnownLaws.{known-grows}
 use Rattle.clock.specs.ClockLaws.{knownAfter, known-after, clock-laid}
-use Rattle.judge.specs.JudgeLaws.{concerned-laid, judge-laid}
-use Rattle.effect.specs.Enter.{Submissions, Filings, enterOn}
-use Rattle.effect.specs.Done.{doneOn}
-use Rattle.effect.specs.DoneLaws.{done-laid}
+use Rattle.decide.specs.DecidedLaws.{concerned-laid, decided-laid}
+use Rattle.carry_out.specs.Enter.{Submissions, Filings, enterOn}
+use Rattle.carry_out.specs.Done.{doneOn}
+use Rattle.carry_out.specs.DoneLaws.{done-laid}
 use Rattle.player.specs.Turn.{Stage, noReplica, turnOn}
 
 -- ---- only an event 8 looks at the list beside it
@@ -213,7 +213,7 @@ module _ (bytes : List ℕ) (kit : Kit) (spells : Spells bytes kit) (n : ℕ) (s
   abbrev r : Room
   r = after kit n
 
-  -- the room in which the event is judged
+  -- the room in which the event is decided
   abbrev t : Room
   t = tick kit r (e .gap)
 
@@ -268,7 +268,7 @@ module _ (bytes : List ℕ) (kit : Kit) (spells : Spells bytes kit) (n : ℕ) (s
   made =
       rw (ticked, read .event, read .count)
       (rw (concerned-laid kit (e .event) (e .requests) good fits, record-laid)
-      (rw (judge-laid kit t k′ (e .event) (e .requests) bounded fits, read .list (s .list))
+      (rw (decided-laid kit t k′ (e .event) (e .requests) bounded fits, read .list (s .list))
       (rw (done-read kit t (layRoles kit) (layTable kit) (layRoom t k′) (layReplica (t .replica me)) me (e .event) (e .requests) (s .list)
       (length (e .requests)))
       (rw (done-laid kit t k′ (e .event) (e .requests) bounded fits, done)))))

@@ -17,9 +17,9 @@ use Rattle.room.specs.Decide.{answerOf}
 use Rattle.kit.specs.Reader.{nextIn, listAfter}
 use Rattle.kit.specs.declared.Next.{Next}
 use Rattle.clock.specs.Clocked.{clockOn}
-use Rattle.judge.specs.Judge.{concernedIn}
-use Rattle.judge.specs.JudgeLaws.{judgeOn}
-use Rattle.effect.specs.Done.{doneOn}
+use Rattle.decide.specs.Decided.{concernedIn}
+use Rattle.decide.specs.DecidedLaws.{decidedOn}
+use Rattle.carry_out.specs.Done.{doneOn}
 use Rattle.player.specs.declared.Played.{Played}
 
 -- the parts of the room, the answers and clocks so far, the list of the last filed history, and the cursor of the next event
@@ -50,7 +50,7 @@ module _ (roles : Roles) (table : List ℕ) (k : ℕ) (s : Stage) (e : Next) (li
       }
 
   abbrev pub deciding : Parts → ℕ → Replica → Stage
-  deciding parts me p = doing parts me p (judgeOn roles table parts p (e .event))
+  deciding parts me p = doing parts me p (decidedOn roles table parts p (e .event))
 
   abbrev pub ticking : Parts → Stage
   ticking parts = deciding parts (concernedIn (e .event) roles) (getD (parts .replicas) (concernedIn (e .event) roles) noReplica)

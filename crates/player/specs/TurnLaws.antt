@@ -22,12 +22,12 @@ use Rattle.kit.specs.Reader.{nextIn, listAfter}
 use Rattle.kit.specs.declared.Next.{Next}
 use Rattle.clock.specs.Tick.{tickOn}
 use Rattle.clock.specs.Clocked.{clockOn}
-use Rattle.judge.specs.Judge.{belowSeven, concernedIn, decideOn}
-use Rattle.judge.specs.JudgeLaws.{standingOf, judgeOn}
-use Rattle.effect.specs.Enter.{Entered, submissions, filings, enterOn}
-use Rattle.effect.specs.Apply.{Applied, applyOn, movesOn}
-use Rattle.effect.specs.Still.{still}
-use Rattle.effect.specs.Done.{doneOn}
+use Rattle.decide.specs.Decided.{belowSeven, concernedIn, decideOn}
+use Rattle.decide.specs.DecidedLaws.{standingOf, decidedOn}
+use Rattle.carry_out.specs.Enter.{Entered, submissions, filings, enterOn}
+use Rattle.carry_out.specs.Apply.{Applied, applyOn, movesOn}
+use Rattle.carry_out.specs.Still.{still}
+use Rattle.carry_out.specs.Done.{doneOn}
 use Rattle.player.specs.Turn.{Stage, noReplica, turnOn, turnsFrom, stage}
 
 -- a turn whose steps' results are what their definitions say of the results before them
@@ -39,7 +39,7 @@ module _ (bytes : List ℕ) (roles : Roles) (table : List ℕ) (k : ℕ) (s : St
       → turnOn bytes roles table k s
       ≡ stage c (set (s .parts .replicas) me (a .replica)) (set (s .answers) k answer) (set (s .clocks) k (desk .clock)) (n .requests) (n .ticks) (n .heads)
       (n .lists) (a .counters .ledger) (a .counters .issued) list (e .next)
-  unfolding turnOn clockOn judgeOn doneOn
+  unfolding turnOn clockOn decidedOn doneOn
   turn-made hp = rw (hk, hp, ha, hn, hc, hm, hd, hl, he)
 
   -- an event that moves nothing: the records and the counters stay

@@ -1,5 +1,5 @@
 // The player: the first events of a kit, one after the other, on the room's parts. The loop owns the replicas' records and is lent the rest, so
-// that no function takes the room; an event is read, the clock ticks, the event is judged, and what was decided is done.
+// that no function takes the room; an event is read, the clock ticks, what it comes to is decided, and that is carried out.
 ghost use mathlib.Core.Path.{_≡_};
 ghost use Prim.Native.Nat.{min};
 ghost use Rattle.player.specs.Turn.{left, playOn};
@@ -55,7 +55,7 @@ pub fn play(
         let later = clock::tick(desk, e.gap, roles, table, requests, ticks, ledger, issued);
         desk = later;
         clocks[k] = desk.clock;
-        let me = judge::concerned(event, roles);
+        let me = decide::concerned(event, roles);
         let p = replicas[me];
         let condition = p.condition;
         let standing = Standing {
@@ -65,7 +65,7 @@ pub fn play(
             holding: p.holding,
             held: p.held,
         };
-        let decision = judge::decide(
+        let decision = decide::decide(
             event,
             standing,
             desk,
@@ -80,8 +80,8 @@ pub fn play(
             ledger,
             issued,
         );
-        answers[k] = judge::answer_of(decision);
-        effect::enter(
+        answers[k] = decide::answer_of(decision);
+        carry_out::enter(
             decision,
             desk,
             &p.noted,
@@ -93,8 +93,8 @@ pub fn play(
             heads,
             lists,
         );
-        if effect::moves(decision) {
-            let q = effect::apply(
+        if carry_out::moves(decision) {
+            let q = carry_out::apply(
                 p,
                 decision,
                 desk,

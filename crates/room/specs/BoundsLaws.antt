@@ -10,7 +10,7 @@ use Rattle.terms.specs.Lists.{holds, Once}
 use Rattle.terms.specs.ListLaws.{and-l, and-r, not-was-true, once-cons}
 use Rattle.terms.specs.Kit.{Kit}
 use Rattle.rules.specs.Room.{Room, Replica}
-use Rattle.rules.specs.Lengths.{Within, noted-missing, once-length}
+use Rattle.rules.specs.laws.Missing.{Within, noted-missing, once-length}
 use Rattle.rules.specs.Deliver.{isNew}
 use Rattle.rules.specs.Switching.{missing}
 use Rattle.room.specs.Bounds.{ReplicaBounds, Bounds}

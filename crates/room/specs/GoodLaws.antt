@@ -12,7 +12,7 @@ use Rattle.terms.specs.Kit.{Kit, GoodKit, GoodEvent, marksActive}
 use Rattle.terms.specs.declared.Event.{Event}
 use Rattle.terms.specs.declared.Event.the-variants.{Submit, Issue, Deliver, Hand, Panic, Idle, Build, File}
 use Rattle.rules.specs.Table.{isActive, switchLeader}
-use Rattle.rules.specs.TableLaws.{roles}
+use Rattle.rules.specs.laws.TableLaws.{roles}
 use Rattle.room.specs.Decide.{concerned}
 
 -- what a table marks, where 0 marks nothing, stands in it

@@ -11,7 +11,7 @@ use Rattle.rules.specs.Table.{isMarkedFaulty}
 use Rattle.rules.specs.Room.{Room, freshReplica}
 use Rattle.rules.specs.Clock.{tick}
 use Rattle.rules.specs.Play.{after}
-use Rattle.rules.specs.agreement.Bounds.{Reached, reached-after, reached-ticked, bounds-of}
+use Rattle.rules.specs.agreement.Sizes.{Reached, reached-after, reached-ticked, bounds-of}
 use Rattle.room.specs.Bounds.{ReplicaBounds, Bounds}
 
 module _ {kit : Kit} {r : Room} (a : Reached kit r) where
@@ -56,6 +56,6 @@ module _ {kit : Kit} {r : Room} (a : Reached kit r) where
 pub reached : (kit : Kit) → GoodKit kit → (n : ℕ) → Bounds kit (after kit n)
 reached kit good n = reached-bounds (reached-after kit good n) good
 
--- when event n is judged: its gap has been added to the clock
+-- when event n is decided: its gap has been added to the clock
 pub reached-tick : (kit : Kit) → GoodKit kit → (n : ℕ) (e : Entry) → nth (kit .events) n ≡ some e → Bounds kit (tick kit (after kit n) (e .gap))
 reached-tick kit good n e h = reached-bounds (reached-ticked kit good n e h) good

@@ -35,7 +35,7 @@ pub struct Standing {
     pub held: u32,
 }
 
-// What an event comes to, once it has been judged: a refusal, or what is to be done. The replica concerned is known beside it.
+// What an event comes to, once it is decided: a refusal, or what is to be done. The replica concerned is known beside it.
 pub enum Decision {
     // The event is refused.
     Refuse(Answer),

@@ -11,7 +11,7 @@ use lib.Seq.{drop-cons}
 use lib.Dec.{eqb}
 use Rattle.terms.specs.Lists.{pick, nth}
 use Rattle.text.specs.Text.{decimal}
-use Rattle.printing.specs.Lines.{linesFrom}
+use Rattle.play_lines.specs.Lines.{linesFrom}
 use Rattle.room_lines.specs.Pieces.{dash, commas, listed, numbered, entryText, entriesFrom}
 
 -- ---- lists

@@ -9,7 +9,7 @@ use Rattle.terms.specs.Numbers.{contentNumbers}
 use Rattle.terms.specs.declared.Condition.{Condition}
 use Rattle.terms.specs.declared.Content.{Content}
 use Rattle.text.specs.Text.{decimal}
-use Rattle.printing.specs.Lines.{spaced, newline, replicaName, lateText}
+use Rattle.play_lines.specs.Lines.{spaced, newline, replicaName, lateText}
 
 -- ---- lists
 
@@ -104,8 +104,8 @@ acceptedText accepted =
     (0x20 ∷ 0x61 ∷ 0x63 ∷ 0x63 ∷ 0x65 ∷ 0x70 ∷ 0x74 ∷ 0x65 ∷ 0x64 ∷ 0x3d ∷ []) ++ entriesFrom accepted false 0 21
 
 -- "replica", number, condition, "settled=", "mark="
-unfoldable pub standingText : ℕ → Condition → ℕ → ℕ → List ℕ
-standingText x condition settled mark =
+unfoldable pub openingText : ℕ → Condition → ℕ → ℕ → List ℕ
+openingText x condition settled mark =
     replicaName x condition
     ++ ((0x20 ∷ 0x73 ∷ 0x65 ∷ 0x74 ∷ 0x74 ∷ 0x6c ∷ 0x65 ∷ 0x64 ∷ 0x3d ∷ [])
     ++ (decimal settled ++ ((0x20 ∷ 0x6d ∷ 0x61 ∷ 0x72 ∷ 0x6b ∷ 0x3d ∷ []) ++ decimal mark)))
@@ -120,5 +120,5 @@ keptText holding held noted marks accepted =
 -- the line of a replica: how it stands, what it keeps, and "list=" with the requests that it has settled
 unfoldable pub recordText : ℕ → Condition → ℕ → Bool → ℕ → List ℕ → List ℕ → (ℕ → ℕ) → List ℕ → List ℕ
 recordText x condition mark holding held noted marks accepted list =
-    standingText x condition (length list) mark
+    openingText x condition (length list) mark
     ++ (keptText holding held noted marks accepted ++ (((0x20 ∷ 0x6c ∷ 0x69 ∷ 0x73 ∷ 0x74 ∷ 0x3d ∷ []) ++ listed list) ++ newline))

@@ -17,8 +17,8 @@ use Rattle.replica.specs.declared.Replica.{Replica}
 use Rattle.replica.specs.Record.{freshRecord}
 use Rattle.room.specs.declared.Desk.{Desk}
 use Rattle.room.specs.declared.Roles.{Roles}
-use Rattle.printing.specs.Lines.{linesFrom}
-use Rattle.printing.specs.PlayLines.{notedShown, heldShown}
+use Rattle.play_lines.specs.Lines.{linesFrom}
+use Rattle.play_lines.specs.PlayLines.{notedShown, heldShown}
 use Rattle.room_lines.specs.Pieces.{dash, eventText, submissionText, submittedText, historyText, contentText, counterText, keptText, recordText}
 
 -- ---- the event, submissions, histories
@@ -83,23 +83,23 @@ recordLine x condition p list =
 
 module _ (leader : ℕ) (table : List ℕ) (heads lists : List (List ℕ)) (issued : List ℕ) (x : ℕ) (p : Replica) where
   -- by its condition: of a faulty one a fresh record is shown
-  abbrev pub standingIn : Condition → List ℕ
-  standingIn Running = recordLine x Running p (notedShown leader table issued x p)
-  standingIn Halted = recordLine x Halted p (notedShown leader table issued x p)
-  standingIn Closed = recordLine x Closed p (heldShown heads lists p)
-  standingIn Faulty = recordLine x Faulty (freshRecord true) []
+  abbrev pub replicaIn : Condition → List ℕ
+  replicaIn Running = recordLine x Running p (notedShown leader table issued x p)
+  replicaIn Halted = recordLine x Halted p (notedShown leader table issued x p)
+  replicaIn Closed = recordLine x Closed p (heldShown heads lists p)
+  replicaIn Faulty = recordLine x Faulty (freshRecord true) []
 
-  unfoldable pub standingLine : List ℕ
-  standingLine = standingIn (p .condition)
+  unfoldable pub replicaLine : List ℕ
+  replicaLine = replicaIn (p .condition)
 
 -- the line of replica x
-abbrev pub standingAt : ℕ → List ℕ → List (List ℕ) → List (List ℕ) → List ℕ → List Replica → ℕ → List ℕ
-standingAt leader table heads lists issued replicas x = standingLine leader table heads lists issued x (getD replicas x (freshRecord true))
+abbrev pub replicaAt : ℕ → List ℕ → List (List ℕ) → List (List ℕ) → List ℕ → List Replica → ℕ → List ℕ
+replicaAt leader table heads lists issued replicas x = replicaLine leader table heads lists issued x (getD replicas x (freshRecord true))
 
 -- one line for each replica
-unfoldable pub standingLines : List Replica → Roles → List ℕ → List (List ℕ) → List (List ℕ) → List ℕ → List ℕ
-standingLines replicas roles table heads lists issued =
-    linesFrom 0 (min (roles .size) 7) (standingAt (roles .leader) table heads lists issued replicas)
+unfoldable pub replicaLines : List Replica → Roles → List ℕ → List (List ℕ) → List (List ℕ) → List ℕ → List ℕ
+replicaLines replicas roles table heads lists issued =
+    linesFrom 0 (min (roles .size) 7) (replicaAt (roles .leader) table heads lists issued replicas)
 
 -- ---- the whole
 
@@ -109,4 +109,4 @@ roomLines answers n desk replicas roles table requests ticks heads lists ledger 
     eventText n (desk .clock) (answerIn answers n) (desk .late) (desk .due)
     ++ (submittedLine requests ticks (desk .submitted)
     ++ (historyLines heads lists (desk .histories)
-    ++ (counterLines ledger issued (roles .size) ++ standingLines replicas roles table heads lists issued)))
+    ++ (counterLines ledger issued (roles .size) ++ replicaLines replicas roles table heads lists issued)))

@@ -12,8 +12,8 @@ use Rattle.rules.specs.Room.{Room, Replica, freshReplica}
 use Rattle.rules.specs.Reading.{isFaulty, settled}
 use Rattle.rules.specs.Play.{after, answer}
 use Rattle.replica.specs.RecordLayout.{numberOr0}
-use Rattle.printing.specs.Lines.{linesFrom}
-use Rattle.printing.specs.PlayText.{numberSaid}
+use Rattle.play_lines.specs.Lines.{linesFrom}
+use Rattle.play_lines.specs.PlayText.{numberSaid}
 use Rattle.room_lines.specs.Pieces.{dash, numbered, eventText, submissionText, submittedText, historyText, contentText, counterText, recordText}
 
 -- the answer to event n, counted from 1: none before the first

@@ -27,12 +27,12 @@ use Rattle.room.specs.Layout.{Parts, layRoles, layTable, layHeads, layLists, la
 use Rattle.room.specs.LayoutLaws.{head-laid, list-laid, replica-laid}
 use Rattle.room.specs.Bounds.{Bounds}
 use Rattle.room.specs.GoodLaws.{size-max}
-use Rattle.printing.specs.Lines.{linesFrom}
-use Rattle.printing.specs.LinesLaws.{lines-ext}
-use Rattle.printing.specs.PlayTextLaws.{Says, noted-said, held-said}
+use Rattle.play_lines.specs.Lines.{linesFrom}
+use Rattle.play_lines.specs.LinesLaws.{lines-ext}
+use Rattle.play_lines.specs.PlayTextLaws.{Says, noted-said, held-said}
 use Rattle.room_lines.specs.Pieces.{submittedText, historyText, counterText, acceptedText, keptText, recordText}
 use Rattle.room_lines.specs.PieceLaws.{entries-ext, lines-each}
-use Rattle.room_lines.specs.RoomLines.{answerIn, submissionsIn, submittedLine, historyLines, contentsIn, counterLine, countersAt, counterLines, recordLine, standingIn, standingLine, standingLines, roomLines}
+use Rattle.room_lines.specs.RoomLines.{answerIn, submissionsIn, submittedLine, historyLines, contentsIn, counterLine, countersAt, counterLines, recordLine, replicaIn, replicaLine, replicaLines, roomLines}
 use Rattle.room_lines.specs.RoomText.{answerSaid, submittedSaid, historiesSaid, counterSaid, countersSaid, recordShown, replicaSaid, roomText}
 
 -- ---- the answer
@@ -104,7 +104,7 @@ module _ (kit : Kit) (r : Room) (b : Bounds kit r) where
   -- ---- replicas
 
   line-said : (x : ℕ) → x < 7 → (c : Condition) → r .replica x .condition ≡ c
-      → standingIn (kit .leader) (layTable kit) (layHeads (r .histories)) (layLists (r .histories)) (layIssued (r .counter)) x (layReplica (r .replica x)) c
+      → replicaIn (kit .leader) (layTable kit) (layHeads (r .histories)) (layLists (r .histories)) (layIssued (r .counter)) x (layReplica (r .replica x)) c
       ≡ replicaSaid kit r x
   unfolding replicaSaid recordShown settled freshReplica
   line-said x below Running e = rw (noted-said kit r b x below, record-said x (r .replica x) Running (settledNoted kit x (r .replica x) (length (r .counter x ag))), e)
@@ -112,20 +112,20 @@ module _ (kit : Kit) (r : Room) (b : Bounds kit r) where
   line-said x below Closed e = rw (held-said kit r b (r .replica x), record-said x (r .replica x) Closed (heldList r (r .replica x .held)), e)
   line-said x below Faulty e = let f = fresh-laid true in rw (← f, record-said x (freshReplica true) Faulty [], e)
 
-  standing-said : (x : ℕ) → x < 7
-      → standingLine (kit .leader) (layTable kit) (layHeads (r .histories)) (layLists (r .histories)) (layIssued (r .counter)) x (layReplica (r .replica x))
+  replica-said : (x : ℕ) → x < 7
+      → replicaLine (kit .leader) (layTable kit) (layHeads (r .histories)) (layLists (r .histories)) (layIssued (r .counter)) x (layReplica (r .replica x))
       ≡ replicaSaid kit r x
-  unfolding standingLine layReplica
-  standing-said x below = line-said x below (r .replica x .condition) refl
+  unfolding replicaLine layReplica
+  replica-said x below = line-said x below (r .replica x .condition) refl
 
-  standings-said : standingLines (layReplicas (r .replica)) (layRoles kit) (layTable kit) (layHeads (r .histories)) (layLists (r .histories)) (layIssued (r .counter))
+  replicas-said : replicaLines (layReplicas (r .replica)) (layRoles kit) (layTable kit) (layHeads (r .histories)) (layLists (r .histories)) (layIssued (r .counter))
       ≡ linesFrom 0 (length (kit .table)) (replicaSaid kit r)
-  unfolding standingLines layRoles
-  standings-said =
+  unfolding replicaLines layRoles
+  replicas-said =
       let m : min (length (kit .table)) 7 ≡ length (kit .table) = omega (arith, size-max (b .good)) in
       rw m
       (lines-ext (length (kit .table)) 0 _ _ (λ x h.
-      let below : x < 7 = omega (arith, h, size-max (b .good)) in rw (replica-laid (r .replica) x _ below) (standing-said x below)))
+      let below : x < 7 = omega (arith, h, size-max (b .good)) in rw (replica-laid (r .replica) x _ below) (replica-said x below)))
 
 -- ---- the whole
 
@@ -139,4 +139,4 @@ pub room-said : (kit : Kit) (n : ℕ) → n ≤ 4096 → Bounds kit (after kit n
 unfolding roomLines roomText layRoom layDesk layRoles
 room-said kit n small b clocks answers s known =
     let r = after kit n in
-    rw (answer-said kit n small clocks answers s, submissions-said kit r b, histories-said kit r b, counters-said kit r b, standings-said kit r b)
+    rw (answer-said kit n small clocks answers s, submissions-said kit r b, histories-said kit r b, counters-said kit r b, replicas-said kit r b)

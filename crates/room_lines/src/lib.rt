@@ -10,9 +10,9 @@ ghost use Rattle.terms.specs.Lists.{pick};
 ghost use Rattle.terms.specs.declared.Condition.the-variants.{Closed, Faulty};
 ghost use Rattle.text.specs.Text.{Lays};
 ghost use Rattle.replica.specs.Record.{freshRecord};
-ghost use Rattle.printing.specs.PlayLines.{notedShown, heldShown};
-ghost use Rattle.room_lines.specs.Pieces.{commas, listed, clockText, eventText, submissionText, historyText, partsText, contentText, heldText, entryText, entriesFrom, acceptedText, standingText};
-ghost use Rattle.room_lines.specs.RoomLines.{answerIn, submissionsIn, submittedLine, historyLines, choiceText, contentsIn, counterLine, countersAt, counterLines, keptIn, recordLine, standingLine, standingLines, roomLines};
+ghost use Rattle.play_lines.specs.PlayLines.{notedShown, heldShown};
+ghost use Rattle.room_lines.specs.Pieces.{commas, listed, clockText, eventText, submissionText, historyText, partsText, contentText, heldText, entryText, entriesFrom, acceptedText, openingText};
+ghost use Rattle.room_lines.specs.RoomLines.{answerIn, submissionsIn, submittedLine, historyLines, choiceText, contentsIn, counterLine, countersAt, counterLines, keptIn, recordLine, replicaLine, replicaLines, roomLines};
 use ledger::Issued;
 use ledger::Ledger;
 use replica::Replica;
@@ -32,7 +32,7 @@ fn put_commas(out: &mut [u8], at: usize, list: &[u32]) -> usize
     let mut i: usize = 1;
     while i < list.len() {
         let a = text::put_byte(out, place, 44);
-        place = text::put_decimal(out, a, printing::wide(list[i]));
+        place = text::put_decimal(out, a, play_lines::wide(list[i]));
         i = i + 1;
     }
     place
@@ -45,7 +45,7 @@ fn put_listed(out: &mut [u8], at: usize, list: &[u32]) -> usize
     if list.len() == 0 {
         return text::put_byte(out, at, 45);
     }
-    let a = text::put_decimal(out, at, printing::wide(list[0]));
+    let a = text::put_decimal(out, at, play_lines::wide(list[0]));
     put_commas(out, a, list)
 }
 
@@ -53,7 +53,7 @@ fn put_listed(out: &mut [u8], at: usize, list: &[u32]) -> usize
 fn put_part(out: &mut [u8], at: usize, word: &[u8], list: &[u32], n: usize) -> usize
     ensures { λ r. ⌜ Lays (now (out .entry)) at (now (word .entry) ++ listed (take n (now (list .entry)))) r (now (out .exit)) ⌝ }
 {
-    let m = printing::lesser(n, list.len());
+    let m = play_lines::lesser(n, list.len());
     let a = text::put_word(out, at, word);
     put_listed(out, a, &list[..m])
 }
@@ -70,7 +70,7 @@ fn put_answer(out: &mut [u8], at: usize, answers: &[u32; 4096], n: usize) -> usi
     if 4096 < n {
         return text::put_byte(out, at, 45);
     }
-    text::put_decimal(out, at, printing::wide(answers[n - 1]))
+    text::put_decimal(out, at, play_lines::wide(answers[n - 1]))
 }
 
 // The number of an event, and the clock after it.
@@ -78,9 +78,9 @@ fn put_clock(out: &mut [u8], at: usize, n: usize, clock: u64) -> usize
     ensures { λ r. ⌜ Lays (now (out .entry)) at (clockText n clock) r (now (out .exit)) ⌝ }
 {
     let a = text::put_word(out, at, b"event");
-    let b = printing::put_next(out, a, printing::long(n));
+    let b = play_lines::put_next(out, a, play_lines::long(n));
     let c = text::put_word(out, b, b" clock");
-    printing::put_next(out, c, clock)
+    play_lines::put_next(out, c, clock)
 }
 
 // The line of the last event: its number, the clock, its answer, the late tick.
@@ -99,7 +99,7 @@ fn put_event(
     let b = text::put_word(out, a, b" answer ");
     let c = put_answer(out, b, answers, n);
     let d = text::put_byte(out, c, 32);
-    printing::put_late(out, d, late, due)
+    play_lines::put_late(out, d, late, due)
 }
 
 // ---- submissions
@@ -108,7 +108,7 @@ fn put_event(
 fn put_submission(out: &mut [u8], at: usize, request: u64, tick: u64) -> usize
     ensures { λ r. ⌜ Lays (now (out .entry)) at (submissionText request tick) r (now (out .exit)) ⌝ }
 {
-    let a = printing::put_next(out, at, request);
+    let a = play_lines::put_next(out, at, request);
     let b = text::put_byte(out, a, 64);
     text::put_decimal(out, b, tick)
 }
@@ -123,11 +123,11 @@ fn put_submissions(
 ) -> usize
     ensures { λ r. ⌜ Lays (now (out .entry)) at (submissionsIn (now (requests .entry)) (now (ticks .entry)) n) r (now (out .exit)) ⌝ }
 {
-    let count = printing::lesser(n, 64);
+    let count = play_lines::lesser(n, 64);
     let mut place = at;
     let mut i: usize = 0;
     while i < count {
-        place = put_submission(out, place, printing::wide(requests[i]), ticks[i]);
+        place = put_submission(out, place, play_lines::wide(requests[i]), ticks[i]);
         i = i + 1;
     }
     place
@@ -163,9 +163,9 @@ fn put_history(
     ensures { λ r. ⌜ Lays (now (out .entry)) at (historyText h j k (take n (now (list .entry)))) r (now (out .exit)) ⌝ }
 {
     let a = text::put_word(out, at, b"history");
-    let b = printing::put_next(out, a, printing::long(h));
-    let c = printing::put_next(out, b, printing::long(j));
-    let d = printing::put_next(out, c, printing::long(k));
+    let b = play_lines::put_next(out, a, play_lines::long(h));
+    let c = play_lines::put_next(out, b, play_lines::long(j));
+    let d = play_lines::put_next(out, c, play_lines::long(k));
     let e = put_part(out, d, b" ", list, n);
     text::put_byte(out, e, 10)
 }
@@ -180,7 +180,7 @@ fn put_histories(
 ) -> usize
     ensures { λ r. ⌜ Lays (now (out .entry)) at (historyLines (now (heads .entry)) (now (lists .entry)) n) r (now (out .exit)) ⌝ }
 {
-    let count = printing::lesser(n, 8);
+    let count = play_lines::lesser(n, 8);
     let mut place = at;
     let mut h: usize = 0;
     while h < count {
@@ -204,7 +204,7 @@ fn put_histories(
 fn put_parts(out: &mut [u8], at: usize, kind: u64, a: u64, b: u64) -> usize
     ensures { λ r. ⌜ Lays (now (out .entry)) at (partsText kind a b) r (now (out .exit)) ⌝ }
 {
-    let c = printing::put_next(out, at, kind);
+    let c = play_lines::put_next(out, at, kind);
     let d = text::put_byte(out, c, 58);
     let e = text::put_decimal(out, d, a);
     let f = text::put_byte(out, e, 58);
@@ -216,9 +216,9 @@ fn put_content(out: &mut [u8], at: usize, content: Content) -> usize
     ensures { λ r. ⌜ Lays (now (out .entry)) at (contentText content) r (now (out .exit)) ⌝ }
 {
     let p = terms::numbers_of_content(content);
-    let kind = printing::wide(p[0]);
-    let a = printing::wide(p[1]);
-    let b = printing::wide(p[2]);
+    let kind = play_lines::wide(p[0]);
+    let a = play_lines::wide(p[1]);
+    let b = play_lines::wide(p[2]);
     put_parts(out, at, kind, a, b)
 }
 
@@ -252,7 +252,7 @@ fn put_contents(
 ) -> usize
     ensures { λ r. ⌜ Lays (now (out .entry)) at (contentsIn (now (ledger .entry)) (now (issued .entry)) x name n) r (now (out .exit)) ⌝ }
 {
-    let count = printing::lesser(n, 96);
+    let count = play_lines::lesser(n, 96);
     let mut place = at;
     let mut i: usize = 0;
     while i < count {
@@ -279,9 +279,9 @@ fn put_counter(
         return at;
     }
     let a = text::put_word(out, at, b"counter");
-    let b = printing::put_next(out, a, printing::long(x));
+    let b = play_lines::put_next(out, a, play_lines::long(x));
     let c = text::put_byte(out, b, 46);
-    let d = text::put_decimal(out, c, printing::long(name));
+    let d = text::put_decimal(out, c, play_lines::long(name));
     let e = put_contents(out, d, ledger, issued, x, name, n);
     text::put_byte(out, e, 10)
 }
@@ -299,7 +299,7 @@ fn put_own(out: &mut [u8], at: usize, ledger: &Ledger, issued: &Issued, x: usize
 fn put_counters(out: &mut [u8], at: usize, ledger: &Ledger, issued: &Issued, size: usize) -> usize
     ensures { λ r. ⌜ Lays (now (out .entry)) at (counterLines (now (ledger .entry)) (now (issued .entry)) size) r (now (out .exit)) ⌝ }
 {
-    let count = printing::lesser(size, 7);
+    let count = play_lines::lesser(size, 7);
     let mut place = at;
     let mut x: usize = 0;
     while x < count {
@@ -317,7 +317,7 @@ fn put_held(out: &mut [u8], at: usize, holding: bool, held: u32) -> usize
 {
     let a = text::put_word(out, at, b" held=");
     if holding {
-        return text::put_decimal(out, a, printing::wide(held));
+        return text::put_decimal(out, a, play_lines::wide(held));
     }
     text::put_byte(out, a, 45)
 }
@@ -340,11 +340,11 @@ fn put_entry(out: &mut [u8], at: usize, begun: bool, c: usize, value: u32) -> us
         return at;
     }
     let a = put_between(out, at, begun);
-    let b = text::put_decimal(out, a, printing::long(c / 3));
+    let b = text::put_decimal(out, a, play_lines::long(c / 3));
     let d = text::put_byte(out, b, 46);
-    let e = text::put_decimal(out, d, printing::long(c % 3));
+    let e = text::put_decimal(out, d, play_lines::long(c % 3));
     let f = text::put_byte(out, e, 58);
-    text::put_decimal(out, f, printing::wide(value))
+    text::put_decimal(out, f, play_lines::wide(value))
 }
 
 // Whether the list has begun after an entry of this value.
@@ -377,7 +377,7 @@ fn put_entries(out: &mut [u8], at: usize, accepted: &[u32; 21]) -> usize
 }
 
 // A replica's number, condition, settled count and mark.
-fn put_standing(
+fn put_opening(
     out: &mut [u8],
     at: usize,
     x: usize,
@@ -385,13 +385,13 @@ fn put_standing(
     settled: usize,
     mark: u32,
 ) -> usize
-    ensures { λ r. ⌜ Lays (now (out .entry)) at (standingText x condition settled mark) r (now (out .exit)) ⌝ }
+    ensures { λ r. ⌜ Lays (now (out .entry)) at (openingText x condition settled mark) r (now (out .exit)) ⌝ }
 {
-    let a = printing::put_name(out, at, x, condition);
+    let a = play_lines::put_name(out, at, x, condition);
     let b = text::put_word(out, a, b" settled=");
-    let c = text::put_decimal(out, b, printing::long(settled));
+    let c = text::put_decimal(out, b, play_lines::long(settled));
     let d = text::put_word(out, c, b" mark=");
-    text::put_decimal(out, d, printing::wide(mark))
+    text::put_decimal(out, d, play_lines::wide(mark))
 }
 
 // What a replica has accepted: the word and the values.
@@ -427,8 +427,8 @@ fn put_record(
 ) -> usize
     ensures { λ r. ⌜ Lays (now (out .entry)) at (recordLine x condition p (take n (now (list .entry)))) r (now (out .exit)) ⌝ }
 {
-    let m = printing::lesser(n, list.len());
-    let a = put_standing(out, at, x, condition, m, p.mark);
+    let m = play_lines::lesser(n, list.len());
+    let a = put_opening(out, at, x, condition, m, p.mark);
     let b = put_kept(out, a, p);
     let c = put_part(out, b, b" list=", list, n);
     text::put_byte(out, c, 10)
@@ -451,7 +451,7 @@ fn put_noted(
     let noted = p.noted;
     let own = ledger::total(issued, x, 0);
     let c = replica::settled_count(&accepted, table, leader, x, own);
-    let n = printing::lesser(c, p.count);
+    let n = play_lines::lesser(c, p.count);
     put_record(out, at, x, condition, p, &noted, n)
 }
 
@@ -474,7 +474,7 @@ fn put_closed(
 ) -> usize
     ensures { λ r. ⌜ Lays (now (out .entry)) at (recordLine x Closed p (heldShown (now (heads .entry)) (now (lists .entry)) p)) r (now (out .exit)) ⌝ }
 {
-    let h = printing::index(p.held);
+    let h = play_lines::index(p.held);
     if p.holding {
         if h < 8 {
             let n = heads[h][2];
@@ -494,7 +494,7 @@ fn put_faulty(out: &mut [u8], at: usize, x: usize) -> usize
 }
 
 // The line of a replica, by its condition.
-fn put_seat(
+fn put_replica(
     out: &mut [u8],
     at: usize,
     x: usize,
@@ -505,7 +505,7 @@ fn put_seat(
     lists: &[[u32; 64]; 8],
     issued: &Issued,
 ) -> usize
-    ensures { λ r. ⌜ Lays (now (out .entry)) at (standingLine leader (now (table .entry)) (now (heads .entry)) (now (lists .entry)) (now (issued .entry)) x p) r (now (out .exit)) ⌝ }
+    ensures { λ r. ⌜ Lays (now (out .entry)) at (replicaLine leader (now (table .entry)) (now (heads .entry)) (now (lists .entry)) (now (issued .entry)) x p) r (now (out .exit)) ⌝ }
 {
     let condition = p.condition;
     match condition {
@@ -527,15 +527,15 @@ fn put_replicas(
     lists: &[[u32; 64]; 8],
     issued: &Issued,
 ) -> usize
-    ensures { λ r. ⌜ Lays (now (out .entry)) at (standingLines replicas roles (now (table .entry)) (now (heads .entry)) (now (lists .entry)) (now (issued .entry))) r (now (out .exit)) ⌝ }
+    ensures { λ r. ⌜ Lays (now (out .entry)) at (replicaLines replicas roles (now (table .entry)) (now (heads .entry)) (now (lists .entry)) (now (issued .entry))) r (now (out .exit)) ⌝ }
 {
     let leader = roles.leader;
-    let count = printing::lesser(roles.size, 7);
+    let count = play_lines::lesser(roles.size, 7);
     let mut place = at;
     let mut x: usize = 0;
     while x < count {
         let p = replicas[x];
-        place = put_seat(out, place, x, p, leader, table, heads, lists, issued);
+        place = put_replica(out, place, x, p, leader, table, heads, lists, issued);
         x = x + 1;
     }
     place

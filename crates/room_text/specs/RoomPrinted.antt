@@ -12,8 +12,8 @@ use Rattle.terms.specs.declared.KitAnswer.the-variants.{TooLong}
 use Rattle.kit.specs.declared.Settings.{Settings}
 use Rattle.kit.specs.Reader.{checkOf, settingsIn}
 use Rattle.player.specs.Turn.{Left}
-use Rattle.printing.specs.Lines.{spaced, kitLine}
-use Rattle.printed.specs.Printed.{rolesIn, playedFrom}
+use Rattle.play_lines.specs.Lines.{spaced, kitLine}
+use Rattle.play_text.specs.Printed.{rolesIn, playedFrom}
 use Rattle.room_lines.specs.RoomLines.{roomLines}
 use Rattle.room_text.specs.Asked.{isNumber, numberAsked}
 

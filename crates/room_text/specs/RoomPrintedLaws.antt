@@ -11,8 +11,8 @@ use Rattle.room.specs.Bounds.{Bounds}
 use Rattle.room.specs.declared.Roles.{Roles}
 use Rattle.kit.specs.declared.Settings.{Settings}
 use Rattle.player.specs.Turn.{Left, playOn}
-use Rattle.printed.specs.Printed.{freshReplicas, rolesIn, playedFrom}
-use Rattle.printed.specs.PrintedLaws.{PlaysAs}
+use Rattle.play_text.specs.Printed.{freshReplicas, rolesIn, playedFrom}
+use Rattle.play_text.specs.PrintedLaws.{PlaysAs}
 use Rattle.room_lines.specs.RoomLines.{roomLines}
 use Rattle.room_lines.specs.RoomText.{roomText}
 use Rattle.room_lines.specs.RoomTextLaws.{room-said}

@@ -19,8 +19,8 @@ use Rattle.room.specs.Reached.{reached}
 use Rattle.kit.specs.Reader.{checkOf, kitOf, settingsIn}
 use Rattle.kit.specs.Spelling.{Spells}
 use Rattle.kit.specs.Cursor.{opened, accepted-spells, spells-accepted}
-use Rattle.printing.specs.Lines.{kitLine}
-use Rattle.printed.specs.Theorem.{plays-first}
+use Rattle.play_lines.specs.Lines.{kitLine}
+use Rattle.play_text.specs.PlayTheorem.{plays-first}
 use Rattle.room_lines.specs.RoomText.{roomText}
 use Rattle.room_text.specs.Asked.{askedMax}
 use Rattle.room_text.specs.RoomPrinted.{pastText, momentText, printedRoom, inputRoom, programRoom}

@@ -3,7 +3,7 @@
 ghost use mathlib.Core.Path.{_≡_};
 ghost use Prim.Native.Nat.{_-_, _≤_, min};
 ghost use Rattle.text.specs.Text.{Lays};
-ghost use Rattle.printing.specs.Whole.{Counts};
+ghost use Rattle.play_lines.specs.Whole.{Counts};
 ghost use Rattle.room_text.specs.Asked.{isDigit, isNumber, withDigit, numberAsked, askedMax};
 ghost use Rattle.room_text.specs.RoomPrinted.{roomAfter, pastText, momentText, printedRoom, inputRoom, askedRoom, programRoom};
 use kit::Settings;
@@ -16,8 +16,8 @@ fn put_after(bytes: &[u8], settings: Settings, n: usize, out: &mut [u8]) -> usiz
     ensures { λ r. ⌜ Lays (now (out .entry)) 0 (roomAfter (now (bytes .entry)) settings n) r (now (out .exit)) ⌝ }
 {
     let table = settings.table;
-    let roles = printed::roles_of(settings);
-    let fresh = printed::fresh_replicas(&table);
+    let roles = play_text::roles_of(settings);
+    let fresh = play_text::fresh_replicas(&table);
     let mut answers = [0u32; 4096];
     let mut clocks = [0u64; 4096];
     let mut requests = [0u32; 64];
@@ -66,7 +66,7 @@ fn put_past(out: &mut [u8], count: usize) -> usize
     ensures { λ r. ⌜ Lays (now (out .entry)) 0 (pastText count) r (now (out .exit)) ⌝ }
 {
     let a = text::put_word(out, 0, b"the kit has");
-    let b = printing::put_next(out, a, printing::long(count));
+    let b = play_lines::put_next(out, a, play_lines::long(count));
     text::put_word(out, b, b" events\n")
 }
 
@@ -92,7 +92,7 @@ pub fn printed_room(bytes: &[u8], n: usize, out: &mut [u8]) -> usize
         let settings = kit::open(bytes);
         return put_moment(bytes, settings, n, out);
     }
-    printing::put_kit(out, 0, number)
+    play_lines::put_kit(out, 0, number)
 }
 
 // ---- the number that is asked for
@@ -162,9 +162,9 @@ fn number_asked(word: &[u8]) -> usize
 fn input_room(bytes: &[u8], n: usize, out: &mut [u8]) -> usize
     ensures { λ r. ⌜ Lays (now (out .entry)) 0 (inputRoom (now (bytes .entry)) n) r (now (out .exit)) ⌝ }
 {
-    if printed::BYTES_MAX < bytes.len() {
+    if play_text::BYTES_MAX < bytes.len() {
         let number = terms::number_of_kit(KitAnswer::TooLong);
-        return printing::put_kit(out, 0, number);
+        return play_lines::put_kit(out, 0, number);
     }
     printed_room(bytes, n, out)
 }

@@ -1,3 +1,5 @@
+-- The rules: open Play first, and what it names. Their laws: laws, with the page FirstLaws. Demand 3, and that a correct switch leader is believed:
+-- agreement. Document 01's own rows and cases that are easy to get wrong, by computation: examples. Assumes nothing.
 pub mod Table
 pub mod Room
 pub mod Reading
@@ -7,17 +9,6 @@ pub mod Submit
 pub mod Deliver
 pub mod Switching
 pub mod Play
-pub mod RoomLaws
-pub mod Growth
-pub mod TableLaws
-pub mod ReadingLaws
-pub mod Holding
-pub mod Lengths
-pub mod Filings
-pub mod Rising
-pub mod agreement
-pub mod Computing
-pub mod PaperTable
-pub mod EasyToGetWrong
 pub mod laws
-pub mod FirstLaws
+pub mod agreement
+pub mod examples

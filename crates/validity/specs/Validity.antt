@@ -1,5 +1,5 @@
 -- A valid history, on the counters and histories as the code keeps them, in the words of the rules' Switching. Laws: ValidityLaws. That
--- on a room's own parts it is the rules' validity is a law of crate judge, ValidLaws. Assumes nothing.
+-- on a room's own parts it is the rules' validity is a law of crate decide, ValidLaws. Assumes nothing.
 use mathlib.Core.Bool.{Bool, false, _&&_, _||_}
 use mathlib.Core.Option.{Option, none, some}
 use mathlib.Core.List.{List, []}

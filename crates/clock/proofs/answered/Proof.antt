@@ -1,7 +1,7 @@
 -- `answered`: no value above this one answers the request. Assumes nothing.
 use borrow.Author.Needs.{needs}
 use mathlib.Core.Path.{refl}
-use Rattle.clock.specs.Answered.{answeredOn, answeredAtOn}
+use Rattle.clock.specs.AnsweredOn.{answeredOn, answeredAtOn}
 use Rattle.clock.proofs.Turns.{Seeking, sought, next-down, none-left, at-value}
 use Rattle.clock.proofs.answered.Statement.{statement}
 use Rattle.clock.proofs.answered.Tie as tie

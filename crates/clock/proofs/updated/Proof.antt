@@ -3,7 +3,7 @@ use borrow.Author.Needs.{needs}
 use mathlib.Core.Path.{refl, sym, _∙_}
 use Prim.Native.Nat.{_-_}
 use lib.ListN.{length}
-use Rattle.clock.specs.Answered.{updatedBy, hasUpdated}
+use Rattle.clock.specs.AnsweredOn.{updatedBy, hasUpdated}
 use Rattle.clock.proofs.Turns.{Passing, next-active, fails, next-passive, all-pass}
 use Rattle.clock.proofs.updated.Statement.{statement}
 use Rattle.clock.proofs.updated.Tie as tie

@@ -46,7 +46,7 @@ use denote.Triple.Spec.{Meets, tripleOf}
 use denote.Triple.Table.{entered, cited}
 use denote.Triple.Walked.{says, Stays, stay-ref, walkOf, goes-ref, Walks, ends-at, walked, walk-meets}
 use Rattle.ledger.specs.Ledger.{Book, book}
-use Rattle.effect.specs.Apply.{Applied, applied, applyOn}
+use Rattle.carry_out.specs.Apply.{Applied, applied, applyOn}
 use Rattle.replica.specs.declared.Replica.{Replica}
 use Rattle.replica.specs.Record.{freshRecord}
 use Rattle.in_place.proofs.Lent.{R, Rs, Kept, one-out, one-in, all-seven}

@@ -40,7 +40,7 @@ use denote.Triple.Spec.{Meets, tripleOf}
 use denote.Triple.Table.{entered, cited}
 use denote.Triple.Walked.{says, Stays, stay-ref, walkOf, goes-ref, Walks, ends-at, walked, walk-meets}
 use Rattle.ledger.specs.Ledger.{book}
-use Rattle.effect.specs.Apply.{applied, applyOn}
+use Rattle.carry_out.specs.Apply.{applied, applyOn}
 use Rattle.replica.specs.declared.Replica.{Replica}
 use Rattle.in_place.proofs.Lent.{R, vals}
 use Rattle.replica.proofs.Replica as T
@@ -51,10 +51,10 @@ use Rattle.room.proofs.Desk as K
 use Rattle.room.proofs.Desk.Laws as K′
 use Rattle.room.proofs.Roles as O
 use Rattle.room.proofs.Roles.Laws as O′
-use Rattle.effect.proofs.apply as apply
-use Rattle.effect.proofs.apply.Symbol as apply-def
-use Rattle.effect.proofs.apply.Symbol.{name as #apply}
-use Rattle.effect.proofs.apply.Met as apply-thm
+use Rattle.carry_out.proofs.apply as apply
+use Rattle.carry_out.proofs.apply.Symbol as apply-def
+use Rattle.carry_out.proofs.apply.Symbol.{name as #apply}
+use Rattle.carry_out.proofs.apply.Met as apply-thm
 use Rattle.event_in_place.proofs.Passed.{rest, all-left, all-fit, all-go}
 use Rattle.event_in_place.proofs.apply_in.Key.{name as #apply-in}
 use Rattle.event_in_place.proofs.apply_in as apply-in
@@ -212,4 +212,4 @@ apply-in-spec 𝓤 H 𝓜 𝓖 𝓡 =
     entered 𝓤 H (tripleOf 𝓤 H (𝓖 .A) apply-in.signature (apply-in.spec 𝓤 H (𝓖 .A) (𝓜 .mem) (𝓡 .run)))
     (tables 𝓤 H 𝓜 𝓡 code.env .C) (tables 𝓤 H 𝓜 𝓡 code.env .Λ) #apply-in code.function (code.unfolded 𝓤 H 𝓜 𝓡)
     (apply-in-meets 𝓤 H (𝓖 .A) (givenOf 𝓤 H 𝓜 𝓖) (𝓜 .mem) (𝓡 .run) (tablesOf 𝓤 H 𝓜 (tables 𝓤 H 𝓜 𝓡 code.env))
-    (cited 𝓤 H (Apply 𝓤 H (𝓖 .A) (𝓜 .mem) (𝓡 .run)) 𝓜 𝓡 code.env #apply apply-def.routine code.calls-effect·apply (apply-thm.met 𝓤 H 𝓜 𝓖 𝓡)))
+    (cited 𝓤 H (Apply 𝓤 H (𝓖 .A) (𝓜 .mem) (𝓡 .run)) 𝓜 𝓡 code.env #apply apply-def.routine code.calls-carry-out·apply (apply-thm.met 𝓤 H 𝓜 𝓖 𝓡)))

@@ -40,7 +40,7 @@ use denote.Triple.Spec.{Meets, tripleOf}
 use denote.Triple.Table.{entered, cited}
 use denote.Triple.Walked.{says, Stays, walkOf, Walks, ends-at, walked, walk-meets}
 use Rattle.ledger.specs.Ledger.{Book, book}
-use Rattle.effect.specs.Apply.{Applied, applyOn}
+use Rattle.carry_out.specs.Apply.{Applied, applyOn}
 use Rattle.replica.specs.declared.Replica.{Replica}
 use Rattle.replica.proofs.Replica.Laws as T′
 use Rattle.in_place.proofs.Lent.{Rs, vals-all, val-all, tells-all, makes-all, lawful-all, lies-all, lain-all}

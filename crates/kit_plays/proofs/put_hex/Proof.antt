@@ -5,7 +5,7 @@ use Prim.Native.Nat.{_-_}
 use lib.ListN.{length, drop, drop-of-length-le}
 use Rattle.text.specs.TextLaws.{lays-as}
 use Rattle.kit_plays.specs.Hex.{hexFrom, hex-next, pairBytes}
-use Rattle.printing.specs.LinesLaws.{Rest, rest-start, rest-next, rest-over}
+use Rattle.play_lines.specs.LinesLaws.{Rest, rest-start, rest-next, rest-over}
 use Rattle.kit_plays.proofs.put_hex.Statement.{statement}
 use Rattle.kit_plays.proofs.put_hex.Tie as tie
 

@@ -2,7 +2,7 @@
 use borrow.Author.Needs.{needs}
 use borrow.Author.Tests.{lt-ltb, le-ltb}
 use Rattle.text.specs.TextLaws.{lays-as}
-use Rattle.printing.specs.PlayLines.{heldShown}
+use Rattle.play_lines.specs.PlayLines.{heldShown}
 use Rattle.room_lines.proofs.put_closed.Statement.{statement}
 use Rattle.room_lines.proofs.put_closed.Tie as tie
 

@@ -5,7 +5,7 @@ use Prim.Native.Nat.{_-_}
 use lib.ListN.{length, drop}
 use Rattle.text.specs.TextLaws.{then-lays, lays-as}
 use Rattle.text.specs.Text.{decimal}
-use Rattle.printing.specs.LinesLaws.{Rest, rest-start, rest-next, rest-over}
+use Rattle.play_lines.specs.LinesLaws.{Rest, rest-start, rest-next, rest-over}
 use Rattle.room_lines.specs.Pieces.{commas}
 use Rattle.room_lines.specs.PieceLaws.{commas-next, commas-over}
 use Rattle.room_lines.proofs.put_commas.Statement.{statement}

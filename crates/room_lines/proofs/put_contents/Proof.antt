@@ -3,8 +3,8 @@ use borrow.Author.Needs.{needs}
 use native.Mathlib.Omega.{arith}
 use native.Mathlib.Numerals.{add-one}
 use Prim.Native.Nat.{_-_, _≤_}
-use Rattle.printing.specs.Lines.{linesFrom}
-use Rattle.printing.specs.LinesLaws.{Rest, rest-start, rest-next, rest-over, lines-start, lines-next, lines-over}
+use Rattle.play_lines.specs.Lines.{linesFrom}
+use Rattle.play_lines.specs.LinesLaws.{Rest, rest-start, rest-next, rest-over, lines-start, lines-next, lines-over}
 use Rattle.text.specs.TextLaws.{lays-as}
 use Rattle.room_lines.specs.RoomLines.{contentAtPlace, contentsIn}
 use Rattle.room_lines.proofs.put_contents.Statement.{statement}

@@ -4,7 +4,7 @@ use mathlib.Core.Path.{ap}
 use borrow.Author.Tests.{eq-eqb, ne-eqb}
 use Rattle.text.specs.TextLaws.{then-lays, lays-as, lays-none}
 use Rattle.text.specs.Text.{decimal}
-use Rattle.printing.specs.Lines.{spaced}
+use Rattle.play_lines.specs.Lines.{spaced}
 use Rattle.room_lines.specs.Pieces.{counterText}
 use Rattle.room_lines.specs.RoomLines.{counterLine}
 use Rattle.room_lines.proofs.put_counter.Statement.{statement}

@@ -5,7 +5,7 @@ use mathlib.Core.List.{[]}
 use Prim.Native.Nat.{_-_}
 use mathlib.Core.Bool.{false}
 use lib.ListN.{getD}
-use Rattle.printing.specs.LinesLaws.{Rest, rest-start, rest-next, rest-over}
+use Rattle.play_lines.specs.LinesLaws.{Rest, rest-start, rest-next, rest-over}
 use Rattle.room_lines.specs.Pieces.{entriesFrom}
 use Rattle.room_lines.specs.PieceLaws.{entries-next, entries-over}
 use Rattle.room_lines.proofs.put_entries.Statement.{statement}

@@ -1,7 +1,7 @@
 -- `put_noted`: the settled count, of the requests that it has noted. Assumes nothing.
 use borrow.Author.Needs.{needs}
 use Rattle.text.specs.TextLaws.{lays-as}
-use Rattle.printing.specs.PlayLines.{notedShown}
+use Rattle.play_lines.specs.PlayLines.{notedShown}
 use Rattle.room_lines.proofs.put_noted.Statement.{statement}
 use Rattle.room_lines.proofs.put_noted.Tie as tie
 

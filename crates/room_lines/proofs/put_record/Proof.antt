@@ -12,7 +12,7 @@ unfolding recordLine recordText keptIn
 put-record-spec =
     tie.close
     (tie.spec (λ c κs. search needs) (λ c κs. search needs) (λ c κs. search needs) (λ c. search needs) (λ c κs. search needs) (λ c κs. search needs) (λ c. search needs)
-    (λ c. lays-as (then-lays (c .before .before .before .before .before .before .before .before .before .before .before .before .before .before .before .put-standing .ensures)
+    (λ c. lays-as (then-lays (c .before .before .before .before .before .before .before .before .before .before .before .before .before .before .before .put-opening .ensures)
     (then-lays (c .before .before .before .before .before .before .before .before .before .before .before .put-kept .ensures)
     (then-lays (c .before .before .before .before .before .before .put-part .ensures)
     (c .before .before .put-byte .ensures)))) (rw (c .before .before .before .before .before .before .before .before .before .before .before .before .before .before .before .before .before .lesser .ensures, length-take (c .before .before .before .before .before .before .before .before .before .before .before .before .before .before .before .before .before .before .before .before .args .n) (c .before .before .before .before .before .before .before .before .before .before .before .before .before .before .before .before .before .before .before .before .args .list .now)))))

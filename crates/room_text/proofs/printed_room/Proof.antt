@@ -3,7 +3,7 @@ use borrow.Author.Needs.{needs}
 use native.Mathlib.Omega.{arith}
 use borrow.Author.Tests.{eq-eqb, ne-eqb}
 use Rattle.text.specs.TextLaws.{lays-as}
-use Rattle.printing.specs.Whole.{ends-within}
+use Rattle.play_lines.specs.Whole.{ends-within}
 use Rattle.room_text.specs.RoomPrinted.{printedRoom}
 use Rattle.room_text.proofs.printed_room.Statement.{statement}
 use Rattle.room_text.proofs.printed_room.Tie as tie

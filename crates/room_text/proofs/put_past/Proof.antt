@@ -2,7 +2,7 @@
 use borrow.Author.Needs.{needs}
 use mathlib.Core.Path.{ap}
 use Rattle.text.specs.TextLaws.{then-lays, lays-as}
-use Rattle.printing.specs.Lines.{spaced}
+use Rattle.play_lines.specs.Lines.{spaced}
 use Rattle.room_text.specs.RoomPrinted.{pastText}
 use Rattle.room_text.proofs.put_past.Statement.{statement}
 use Rattle.room_text.proofs.put_past.Tie as tie

@@ -2,7 +2,7 @@
 use borrow.Author.Needs.{needs}
 use native.Mathlib.Omega.{arith}
 use Rattle.text.specs.TextLaws.{lays-as}
-use Rattle.printing.specs.Whole.{ends-within}
+use Rattle.play_lines.specs.Whole.{ends-within}
 use Rattle.room_text.specs.RoomPrinted.{programRoom}
 use Rattle.room_text.proofs.room_input.Statement.{statement}
 use Rattle.room_text.proofs.room_input.Tie as tie

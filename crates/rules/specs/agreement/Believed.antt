@@ -20,21 +20,21 @@ use Rattle.terms.specs.declared.Condition.the-variants.{Running, Halted}
 use Rattle.terms.specs.declared.Event.the-variants.{Hand, Panic}
 use Rattle.terms.specs.declared.Answer.the-variants.{Taken, NotValid}
 use Rattle.rules.specs.Table.{ag, up, isMarkedFaulty, switchLeader}
-use Rattle.rules.specs.TableLaws.{Roles, roles}
+use Rattle.rules.specs.laws.TableLaws.{Roles, roles}
 use Rattle.rules.specs.Room.{Room, Replica, Filing, freshRoom, freshReplica, withReplica, withCondition, issue, hold}
-use Rattle.rules.specs.RoomLaws.{replica-same}
+use Rattle.rules.specs.laws.RoomLaws.{replica-same}
 use Rattle.rules.specs.Reading.{isRunning, isFaulty, contentAt, firstOf}
 use Rattle.rules.specs.Clock.{tick}
 use Rattle.rules.specs.Outcome.{Outcome, refuse, taken}
 use Rattle.rules.specs.Switching.{onPanic, isValid, isValidFiling, afterHand, onHand}
 use Rattle.rules.specs.Play.{onEvent, step, play, after, answer}
-use Rattle.rules.specs.Growth.{Grows, grows-refl, grows-trans, tick-grows, step-grows, after-grows}
-use Rattle.rules.specs.Holding.{after-keeps}
+use Rattle.rules.specs.laws.Growth.{Grows, grows-refl, grows-trans, tick-grows, step-grows, after-grows}
+use Rattle.rules.specs.laws.Holding.{after-keeps}
 use Rattle.rules.specs.laws.Refused.{tick-ticked}
 use Rattle.rules.specs.agreement.Invariant.{HistoryLast, Invariant}
 use Rattle.rules.specs.agreement.OneRoom.{backed-one}
 use Rattle.rules.specs.agreement.Events.{next-tick}
-use Rattle.rules.specs.agreement.Moments.{at-moment}
+use Rattle.rules.specs.agreement.Throughout.{at-moment}
 use Rattle.rules.specs.agreement.Theorem.{Correct}
 use Rattle.rules.specs.agreement.Sound.{Sound, sound-grows, sound-backed}
 use Rattle.rules.specs.agreement.Passes.{sound-hands}

@@ -19,7 +19,7 @@ use Rattle.terms.specs.declared.Answer.the-variants.{Taken, NotValid, CannotBui
 use Rattle.rules.specs.Table.{ag, up, isMarkedFaulty, switchLeader}
 use Rattle.rules.specs.Room.{Filing}
 use Rattle.rules.specs.Play.{after, answer}
-use Rattle.rules.specs.Computing.{computing}
+use Rattle.rules.specs.examples.Computing.{computing}
 use Rattle.rules.specs.agreement.Theorem.{Correct}
 use Rattle.rules.specs.agreement.Rows.{atOnce}
 use Rattle.rules.specs.agreement.Built.{BuiltAt}

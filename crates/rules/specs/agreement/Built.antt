@@ -19,16 +19,16 @@ use Rattle.terms.specs.declared.Answer.{Answer}
 use Rattle.terms.specs.declared.Answer.the-variants.{Taken}
 use Rattle.rules.specs.Table.{switchLeader}
 use Rattle.rules.specs.Room.{Room, Replica, Filing, freshRoom, freshReplica, withReplica, withHistory, issue}
-use Rattle.rules.specs.RoomLaws.{replica-other}
+use Rattle.rules.specs.laws.RoomLaws.{replica-other}
 use Rattle.rules.specs.Reading.{isRunning, isFaulty}
 use Rattle.rules.specs.Clock.{tick}
 use Rattle.rules.specs.Outcome.{Outcome, refuse}
 use Rattle.rules.specs.Submit.{onFile}
 use Rattle.rules.specs.Switching.{built, afterBuild, onBuild, afterHand, onHand}
 use Rattle.rules.specs.Play.{onEvent, step, play, after, answer}
-use Rattle.rules.specs.Growth.{after-suc}
-use Rattle.rules.specs.Holding.{calm-submit, calm-deliver, calm-panic, calm-faulty-issue, none-of, step-keeps}
-use Rattle.rules.specs.Filings.{built-held, build-once}
+use Rattle.rules.specs.laws.Growth.{after-suc}
+use Rattle.rules.specs.laws.Holding.{calm-submit, calm-deliver, calm-panic, calm-faulty-issue, none-of, step-keeps}
+use Rattle.rules.specs.laws.Filings.{built-held, build-once}
 use Rattle.rules.specs.laws.Refused.{tick-ticked}
 
 -- an event 7; in a good kit its list is empty

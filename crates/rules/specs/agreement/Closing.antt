@@ -11,18 +11,18 @@ use borrow.Author.Tests.{leb-true, leb-false}
 use Rattle.terms.specs.Lists.{nth, Sub, _⊑_}
 use Rattle.terms.specs.ListLaws.{split, sub-prefix}
 use Rattle.terms.specs.Kit.{Kit, GoodKit}
-use Rattle.rules.specs.TableLaws.{roles}
+use Rattle.rules.specs.laws.TableLaws.{roles}
 use Rattle.rules.specs.Room.{Filing}
 use Rattle.rules.specs.Reading.{isClosed}
-use Rattle.rules.specs.ReadingLaws.{closed-correct}
+use Rattle.rules.specs.laws.ReadingLaws.{closed-correct}
 use Rattle.rules.specs.Switching.{isValidFiling}
 use Rattle.rules.specs.Play.{after}
-use Rattle.rules.specs.Growth.{after-grows}
-use Rattle.rules.specs.Holding.{after-keeps}
+use Rattle.rules.specs.laws.Growth.{after-grows}
+use Rattle.rules.specs.laws.Holding.{after-keeps}
 use Rattle.rules.specs.agreement.Invariant.{Backed, backed-grows}
 use Rattle.rules.specs.agreement.OneRoom.{backed-one, closed-list, settled-in-closed}
 use Rattle.rules.specs.agreement.Handover.{validFiling-backed}
-use Rattle.rules.specs.agreement.Moments.{at-moment, between}
+use Rattle.rules.specs.agreement.Throughout.{at-moment, between}
 use Rattle.rules.specs.agreement.Theorem.{settledAt, Correct, settled-lists-agree}
 
 -- history h, handed at ag value p and up value q, would be found valid when n events have been played

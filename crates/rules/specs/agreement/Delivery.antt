@@ -19,17 +19,17 @@ use Rattle.terms.specs.declared.Content.the-variants.{Prepare, Commit, Update}
 use Rattle.terms.specs.declared.Condition.the-variants.{Closed}
 use Rattle.terms.specs.declared.Answer.{Answer}
 use Rattle.rules.specs.Table.{ag, up, sw, isActive, isMarkedFaulty}
-use Rattle.rules.specs.TableLaws.{Roles}
+use Rattle.rules.specs.laws.TableLaws.{Roles}
 use Rattle.rules.specs.Room.{Room, Replica, withReplica, issue, withCondition, withMark, note, notePair, accept}
-use Rattle.rules.specs.RoomLaws.{accepted-rises, accepted-by-one}
+use Rattle.rules.specs.laws.RoomLaws.{accepted-rises, accepted-by-one}
 use Rattle.rules.specs.Reading.{isRunning, isClosed, isFaulty, contentAt, isContent, firstOf, secondOf, settledCount, settledNoted, heldList}
-use Rattle.rules.specs.ReadingLaws.{running-open, running-correct, isContent-same, settledCount-rises, settledCount-by-one, settledNoted-rises}
+use Rattle.rules.specs.laws.ReadingLaws.{running-open, running-correct, isContent-same, settledCount-rises, settledCount-by-one, settledNoted-rises}
 use Rattle.rules.specs.Outcome.{Outcome, refuse}
-use Rattle.rules.specs.Growth.{Grows, still-submitted, grows-refl, grows-trans, grows-withReplica, grows-issue}
+use Rattle.rules.specs.laws.Growth.{Grows, still-submitted, grows-refl, grows-trans, grows-withReplica, grows-issue}
 use Rattle.rules.specs.agreement.Invariant.{Common, Active, Passive, Part, Invariant, common-grows, active-grows, passive-grows}
 use Rattle.rules.specs.agreement.OneRoom.{open-in-backed}
-use Rattle.rules.specs.agreement.Changes.{common-note, common-same, common-close, active-prepare, active-commit, active-rise, active-same}
-use Rattle.rules.specs.agreement.Changes.{active-few, passive-same, passive-accept, passive-within}
+use Rattle.rules.specs.agreement.OneReplica.{common-note, common-same, common-close, active-prepare, active-commit, active-rise, active-same}
+use Rattle.rules.specs.agreement.OneReplica.{active-few, passive-same, passive-accept, passive-within}
 use Rattle.rules.specs.agreement.Frame.{Moved, moved-none, moved-record, moved-ag, moved-up, Next, next-none, next-move, grows-open}
 use Rattle.rules.specs.agreement.Frame.{grows-closing}
 use Rattle.rules.specs.Deliver.{settle, expectsPrepare, afterPrepare, expectsCommit, afterCommit, onAg, expectsPair, expectsUpdate, markOfPair}

@@ -17,13 +17,13 @@ use Rattle.terms.specs.declared.Condition.the-variants.{Halted}
 use Rattle.terms.specs.declared.Event.{Event}
 use Rattle.terms.specs.declared.Event.the-variants.{Submit, Issue, Deliver, Hand, Panic, Idle, Build, File}
 use Rattle.rules.specs.Table.{ag, up, isMarkedFaulty, switchLeader}
-use Rattle.rules.specs.TableLaws.{Roles}
+use Rattle.rules.specs.laws.TableLaws.{Roles}
 use Rattle.rules.specs.Room.{Room, Replica, withReplica, withClock, withLate, issue, remember, withCondition, note}
 use Rattle.rules.specs.Reading.{isRunning, isClosed, isFaulty, settledCount, settledNoted}
-use Rattle.rules.specs.ReadingLaws.{running-open, running-correct, settledCount-waits, settledNoted-rises}
-use Rattle.rules.specs.Growth.{grows-withReplica, tick-grows}
+use Rattle.rules.specs.laws.ReadingLaws.{running-open, running-correct, settledCount-waits, settledNoted-rises}
+use Rattle.rules.specs.laws.Growth.{grows-withReplica, tick-grows}
 use Rattle.rules.specs.agreement.Invariant.{FilingBounds, Part, Invariant, part-grows}
-use Rattle.rules.specs.agreement.Changes.{common-note, common-halt, seen-within, active-submit, active-same, passive-same}
+use Rattle.rules.specs.agreement.OneReplica.{common-note, common-halt, seen-within, active-submit, active-same, passive-same}
 use Rattle.rules.specs.agreement.Frame.{moved-none, moved-record, moved-ag, moved-submission, moved-file, moved-any, Next, next-none}
 use Rattle.rules.specs.agreement.Frame.{next-trans, next-move, next-still, grows-open}
 use Rattle.rules.specs.Clock.{tick}

@@ -14,10 +14,10 @@ use Rattle.terms.specs.Kit.{Kit}
 use Rattle.terms.specs.declared.Content.{Content}
 use Rattle.rules.specs.Table.{ag, up, sw, isMarkedFaulty}
 use Rattle.rules.specs.Room.{Room, Replica, Filing, withReplica, issue, withHistory, remember}
-use Rattle.rules.specs.RoomLaws.{replica-same, replica-other, counter-same, counter-other}
+use Rattle.rules.specs.laws.RoomLaws.{replica-same, replica-other, counter-same, counter-other}
 use Rattle.rules.specs.Reading.{isClosed, isFaulty, settledNoted, settled, heldList}
-use Rattle.rules.specs.ReadingLaws.{closed-correct}
-use Rattle.rules.specs.Growth.{Grows, grows-refl, grows-trans, grows-withReplica, grows-issue, grows-withHistory, grows-remember}
+use Rattle.rules.specs.laws.ReadingLaws.{closed-correct}
+use Rattle.rules.specs.laws.Growth.{Grows, grows-refl, grows-trans, grows-withReplica, grows-issue, grows-withHistory, grows-remember}
 use Rattle.rules.specs.agreement.Invariant.{FilingBounds, Submissions, Backed, Common, Part, Invariant, part-grows}
 use Rattle.rules.specs.agreement.OneRoom.{openList, settled-closed, settled-open}
 

@@ -13,11 +13,11 @@ use Rattle.terms.specs.declared.Answer.the-variants.{Taken}
 use Rattle.rules.specs.Room.{Room, Filing}
 use Rattle.rules.specs.Outcome.{Outcome}
 use Rattle.rules.specs.Play.{step, after, answer}
-use Rattle.rules.specs.Growth.{after-suc, after-grows}
+use Rattle.rules.specs.laws.Growth.{after-suc, after-grows}
 use Rattle.rules.specs.laws.Time.{step-clock}
 use Rattle.rules.specs.laws.Instead.{Instead, back, replace, replaced, stands-none, each-none, each-first, step-other, rooms-before}
 use Rattle.rules.specs.laws.Instead.{answers-before, same-settings, instead-length, instead-good, first-stands}
-use Rattle.rules.specs.agreement.Moments.{at-moment}
+use Rattle.rules.specs.agreement.Throughout.{at-moment}
 use Rattle.rules.specs.agreement.Built.{BuiltAt}
 use Rattle.rules.specs.agreement.Believed.{handing, OwnValues, Receiver, Believed, switch-leader-believed}
 

@@ -19,19 +19,19 @@ use Rattle.terms.specs.Kit.{Kit}
 use Rattle.terms.specs.declared.Content.{Content}
 use Rattle.terms.specs.declared.Content.the-variants.{Prepare, Commit, History, Switch}
 use Rattle.rules.specs.Table.{ag, up, isMarkedFaulty, switchLeader}
-use Rattle.rules.specs.TableLaws.{Roles}
+use Rattle.rules.specs.laws.TableLaws.{Roles}
 use Rattle.rules.specs.Room.{Room, Replica, Filing, withReplica, issue, withHistory, hold}
 use Rattle.rules.specs.Reading.{isRunning, isClosed, isFaulty, contentAt, isContent, firstOf, settledCount, settledNoted}
-use Rattle.rules.specs.ReadingLaws.{isContent-same, settledCount-active, settledCount-own, settledCount-waits, settledNoted-rises}
-use Rattle.rules.specs.Growth.{Grows, still-submitted}
+use Rattle.rules.specs.laws.ReadingLaws.{isContent-same, settledCount-active, settledCount-own, settledCount-waits, settledNoted-rises}
+use Rattle.rules.specs.laws.Growth.{Grows, still-submitted}
 use Rattle.rules.specs.agreement.Invariant.{FilingBounds, Backed, Active, Part, Invariant, common-grows, active-grows, passive-grows}
 use Rattle.rules.specs.agreement.Sound.{Sound, sound-backed}
 use Rattle.rules.specs.agreement.Built.{built-filed}
-use Rattle.rules.specs.agreement.Changes.{common-hold, active-hold, active-build, passive-same}
+use Rattle.rules.specs.agreement.OneReplica.{common-hold, active-hold, active-build, passive-same}
 use Rattle.rules.specs.agreement.Frame.{Moved, moved-none, moved-record, moved-ag, moved-up, moved-sw, moved-file, Next, next-move, grows-open}
 use Rattle.rules.specs.Switching.{isCommitted, isValid, isValidFiling, afterHand, onHand, missing, built, afterBuild, onBuild}
-use Rattle.rules.specs.Holding.{none-of}
-use Rattle.rules.specs.Lengths.{noted-missing}
+use Rattle.rules.specs.laws.Holding.{none-of}
+use Rattle.rules.specs.laws.Missing.{noted-missing}
 use Rattle.rules.specs.agreement.Delivery.{next-refuse}
 
 -- ---- hand

@@ -16,7 +16,7 @@ use Rattle.terms.specs.declared.Content.the-variants.{Prepare, Commit, Update, 
 use Rattle.rules.specs.Table.{ag, up, isActive, isMarkedFaulty, switchLeader}
 use Rattle.rules.specs.Room.{Room, Replica, Filing}
 use Rattle.rules.specs.Reading.{isRunning, isClosed, isFaulty, settledCount, settledNoted}
-use Rattle.rules.specs.Growth.{Grows, still-submitted}
+use Rattle.rules.specs.laws.Growth.{Grows, still-submitted}
 
 -- how long a filed history is: the reader sees to it for event 8; event 7 files the switch leader's own ag total as k, which counts requests
 -- that it noted, and a settled count that is at most that

@@ -17,10 +17,10 @@ use Rattle.terms.specs.ListLaws.{split, no-way, nth-lt, nth-in, tri, same?}
 use Rattle.terms.specs.Kit.{Kit}
 use Rattle.terms.specs.declared.Content.the-variants.{Prepare}
 use Rattle.rules.specs.Table.{ag, up, isActive, isMarkedFaulty, switchLeader}
-use Rattle.rules.specs.TableLaws.{Roles}
+use Rattle.rules.specs.laws.TableLaws.{Roles}
 use Rattle.rules.specs.Room.{Room}
 use Rattle.rules.specs.Reading.{isClosed, isFaulty, settledCount, settledNoted, settled, heldList}
-use Rattle.rules.specs.ReadingLaws.{settledCount-active, settledCount-passive, settledNoted-at, closed-correct}
+use Rattle.rules.specs.laws.ReadingLaws.{settledCount-active, settledCount-passive, settledNoted-at, closed-correct}
 use Rattle.rules.specs.agreement.Invariant.{Backed, Common, Active, Invariant}
 
 -- (A) two backed histories are one: at the smaller k+1 stands a HISTORY where the other has a COMMIT

@@ -14,7 +14,7 @@ use Rattle.terms.specs.Kit.{Kit}
 use Rattle.terms.specs.declared.Condition.the-variants.{Halted}
 use Rattle.rules.specs.Table.{actives, switchLeader}
 use Rattle.rules.specs.Room.{Room, Filing}
-use Rattle.rules.specs.ReadingLaws.{isContent-self}
+use Rattle.rules.specs.laws.ReadingLaws.{isContent-self}
 use Rattle.rules.specs.Outcome.{refuse, taken}
 use Rattle.rules.specs.Switching.{isCommitted, isSettledBy, isValid, afterHand, onHand}
 use Rattle.rules.specs.agreement.Sound.{Sound}

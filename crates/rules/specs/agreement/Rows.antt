@@ -14,7 +14,7 @@ use Rattle.terms.specs.declared.Event.the-variants.{Submit, Issue, Deliver, Han
 use Rattle.terms.specs.declared.Answer.the-variants.{Unexpected, NotNext}
 use Rattle.rules.specs.Table.{ag, up, sw}
 use Rattle.rules.specs.Play.{after, answer}
-use Rattle.rules.specs.Computing.{computing}
+use Rattle.rules.specs.examples.Computing.{computing}
 use Rattle.rules.specs.agreement.Theorem.{settledAt, Correct}
 
 -- events with no gap between them

@@ -12,7 +12,7 @@ use Rattle.terms.specs.Kit.{Kit}
 use Rattle.terms.specs.declared.Content.the-variants.{Prepare, Commit, Update, History}
 use Rattle.rules.specs.Table.{ag, up, actives, switchLeader}
 use Rattle.rules.specs.Room.{Room, Filing}
-use Rattle.rules.specs.Growth.{Grows, still-submitted}
+use Rattle.rules.specs.laws.Growth.{Grows, still-submitted}
 use Rattle.rules.specs.agreement.Invariant.{Backed}
 
 -- request i of a list, counted from 0

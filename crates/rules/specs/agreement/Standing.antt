@@ -15,15 +15,15 @@ use Rattle.terms.specs.Mark.{markOf}
 use Rattle.terms.specs.Kit.{Kit, GoodKit}
 use Rattle.terms.specs.declared.Content.the-variants.{Commit, Update}
 use Rattle.rules.specs.Table.{ag, up, isActive}
-use Rattle.rules.specs.TableLaws.{Roles, roles}
+use Rattle.rules.specs.laws.TableLaws.{Roles, roles}
 use Rattle.rules.specs.Room.{Room}
 use Rattle.rules.specs.Reading.{isClosed, settledCount, settledNoted, settled}
-use Rattle.rules.specs.ReadingLaws.{settledCount-passive}
+use Rattle.rules.specs.laws.ReadingLaws.{settledCount-passive}
 use Rattle.rules.specs.Play.{after}
 use Rattle.rules.specs.agreement.Invariant.{Active, Invariant}
 use Rattle.rules.specs.agreement.OneRoom.{openList, settled-open}
-use Rattle.rules.specs.agreement.Changes.{settled-within, passive-within}
-use Rattle.rules.specs.agreement.Moments.{at-moment}
+use Rattle.rules.specs.agreement.OneReplica.{settled-within, passive-within}
+use Rattle.rules.specs.agreement.Throughout.{at-moment}
 use Rattle.rules.specs.agreement.Theorem.{settledAt, Correct}
 
 -- of an active one, x

@@ -16,11 +16,11 @@ use Rattle.terms.specs.Lists.{nth, holds, Once, _⊑_}
 use Rattle.terms.specs.ListLaws.{split, sub-prefix, agree-prefix}
 use Rattle.terms.specs.Kit.{Kit, GoodKit}
 use Rattle.rules.specs.Table.{isMarkedFaulty}
-use Rattle.rules.specs.TableLaws.{roles}
+use Rattle.rules.specs.laws.TableLaws.{roles}
 use Rattle.rules.specs.Reading.{settled}
 use Rattle.rules.specs.Play.{after}
 use Rattle.rules.specs.agreement.OneRoom.{settled-agree, settled-once, settled-submitted}
-use Rattle.rules.specs.agreement.Moments.{at-moment, between}
+use Rattle.rules.specs.agreement.Throughout.{at-moment, between}
 
 -- what p has settled when n events have been played
 abbrev pub settledAt : Kit → ℕ → ℕ → List ℕ

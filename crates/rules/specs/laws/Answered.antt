@@ -17,10 +17,10 @@ use Rattle.terms.specs.declared.Content.the-variants.{Update}
 use Rattle.rules.specs.Table.{up, actives}
 use Rattle.rules.specs.Room.{Room, withClock, withLate}
 use Rattle.rules.specs.Reading.{isContent, secondOf, answeredAt, answered}
-use Rattle.rules.specs.TableLaws.{Roles}
-use Rattle.rules.specs.ReadingLaws.{isContent-same}
+use Rattle.rules.specs.laws.TableLaws.{Roles}
+use Rattle.rules.specs.laws.ReadingLaws.{isContent-same}
 use Rattle.rules.specs.Play.{after}
-use Rattle.rules.specs.Growth.{Grows, after-grows}
+use Rattle.rules.specs.laws.Growth.{Grows, after-grows}
 
 -- ---- tests over numbers and lists
 

@@ -12,7 +12,7 @@ use Rattle.rules.specs.Clock.{tick}
 use Rattle.rules.specs.Play.{step, after}
 use Rattle.rules.specs.laws.Changes.{Change, recorded, issued, filed, remembered, changed, Certificate, certificates, event-comes}
 use Rattle.rules.specs.laws.Refused.{tick-ticked}
-use Rattle.rules.specs.Growth.{after-suc}
+use Rattle.rules.specs.laws.Growth.{after-suc}
 
 -- counters with some certificates issued in order, each at its counter's next value
 abbrev pub withIssued : (ℕ → ℕ → List Content) → List Certificate → ℕ → ℕ → List Content

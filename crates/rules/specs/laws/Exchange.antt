@@ -15,7 +15,7 @@ use Rattle.terms.specs.ListLaws.{nth-lt}
 use Rattle.terms.specs.Kit.{Kit, Entry, GoodEntry, GoodEntries, GoodKit}
 use Rattle.rules.specs.Room.{Room}
 use Rattle.rules.specs.Play.{step, play, after, answer}
-use Rattle.rules.specs.Growth.{after-suc}
+use Rattle.rules.specs.laws.Growth.{after-suc}
 use Rattle.rules.specs.laws.Time.{step-clock, step-late}
 use Rattle.rules.specs.laws.Instead.{Instead, back, replace, replaced, stands-two, first-stands, second-stands, each-none, each-first, step-other, same-settings, rooms-before, answers-before, rooms-behind, answers-behind, instead-length, instead-good}
 use Rattle.rules.specs.laws.Order.{Delivery, delivery, isIssued, OrderFree, order-free}

@@ -14,9 +14,9 @@ use Rattle.terms.specs.declared.Content.the-variants.{Commit}
 use Rattle.terms.specs.declared.Event.the-variants.{Submit}
 use Rattle.rules.specs.Table.{ag, up}
 use Rattle.rules.specs.Play.{after}
-use Rattle.rules.specs.Computing.{computing}
-use Rattle.rules.specs.PaperTable.{at, kitOf}
-use Rattle.rules.specs.EasyToGetWrong.{answers}
+use Rattle.rules.specs.examples.Computing.{computing}
+use Rattle.rules.specs.examples.PaperTable.{at, kitOf}
+use Rattle.rules.specs.examples.EasyToGetWrong.{answers}
 use Rattle.rules.specs.laws.Settings.{sameTable}
 use Rattle.rules.specs.laws.Instead.{withEvents, replace}
 use Rattle.rules.specs.laws.Order.{Delivery, delivery}

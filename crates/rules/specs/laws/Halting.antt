@@ -25,7 +25,7 @@ use Rattle.rules.specs.Deliver.{settle, afterPrepare, afterCommit, onAg,
 use Rattle.rules.specs.Switching.{onPanic, afterBuild, onBuild, afterHand, onHand}
 use Rattle.rules.specs.Clock.{tick}
 use Rattle.rules.specs.Play.{onEvent, step, after, answer}
-use Rattle.rules.specs.Growth.{after-suc}
+use Rattle.rules.specs.laws.Growth.{after-suc}
 use Rattle.rules.specs.laws.Refused.{tick-ticked}
 
 -- whoever is halted in r₁ was halted in r

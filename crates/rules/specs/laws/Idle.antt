@@ -19,7 +19,7 @@ use Rattle.rules.specs.Reading.{answered, answeredAt}
 use Rattle.rules.specs.Clock.{overdue, tick}
 use Rattle.rules.specs.Outcome.{taken}
 use Rattle.rules.specs.Play.{onEvent, step, play, after}
-use Rattle.rules.specs.Growth.{grows-issue}
+use Rattle.rules.specs.laws.Growth.{grows-issue}
 use Rattle.rules.specs.laws.Moments.{always-keeps}
 use Rattle.rules.specs.laws.Changes.{Change, recorded, issued, filed, remembered, changed, event-comes}
 use Rattle.rules.specs.laws.Answered.{answered-clock, answered-late, answered-stays}

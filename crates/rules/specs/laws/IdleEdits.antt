@@ -16,7 +16,7 @@ use Rattle.terms.specs.declared.Answer.the-variants.{Taken}
 use Rattle.rules.specs.Clock.{tick}
 use Rattle.rules.specs.Outcome.{Outcome}
 use Rattle.rules.specs.Play.{onEvent, step, play, after, answer}
-use Rattle.rules.specs.Growth.{after-suc}
+use Rattle.rules.specs.laws.Growth.{after-suc}
 use Rattle.rules.specs.laws.Idle.{idle, idle-joined-after, idle-zero}
 use Rattle.rules.specs.laws.Instead.{withEvents, Instead, back, same-settings, same-patience, each-none, each-first, replace, replaced, stands-none, stands-one, stands-two, first-stands, second-stands, rooms-before, answers-before, rooms-behind, answers-behind, place-within, instead-length, instead-good}
 

@@ -11,9 +11,9 @@ use Rattle.terms.specs.declared.Event.the-variants.{Submit, Deliver}
 use Rattle.rules.specs.Table.{ag}
 use Rattle.rules.specs.Room.{Room, freshRoom}
 use Rattle.rules.specs.Play.{play, after}
-use Rattle.rules.specs.Computing.{computing}
-use Rattle.rules.specs.PaperTable.{at, kitOf}
-use Rattle.rules.specs.EasyToGetWrong.{answers}
+use Rattle.rules.specs.examples.Computing.{computing}
+use Rattle.rules.specs.examples.PaperTable.{at, kitOf}
+use Rattle.rules.specs.examples.EasyToGetWrong.{answers}
 use Rattle.rules.specs.laws.Time.{NeverFall}
 use Rattle.rules.specs.laws.Settings.{sameTable}
 use Rattle.rules.specs.laws.Idle.{idle}

@@ -17,7 +17,7 @@ use Rattle.rules.specs.Room.{Room, freshRoom, withClock}
 use Rattle.rules.specs.Reading.{answered, answeredAt}
 use Rattle.rules.specs.Clock.{overdue, tick}
 use Rattle.rules.specs.Play.{onEvent, step, play, after, answerIn, answer}
-use Rattle.rules.specs.Growth.{play-append}
+use Rattle.rules.specs.laws.Growth.{play-append}
 use Rattle.rules.specs.laws.Settings.{sameTable, event-same}
 
 -- the kit with these events in place of its own

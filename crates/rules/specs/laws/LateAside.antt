@@ -17,7 +17,7 @@ use Rattle.terms.specs.declared.Answer.{Answer}
 use Rattle.rules.specs.Table.{ag, up, sw, switchLeader}
 use Rattle.rules.specs.Room.{Filing, Replica, Room, withLate, withReplica, withHistory, remember, issue, withCondition, notePair, accept}
 use Rattle.rules.specs.Reading.{isRunning, contentAt, firstOf, secondOf}
-use Rattle.rules.specs.ReadingLaws.{held-same}
+use Rattle.rules.specs.laws.ReadingLaws.{held-same}
 use Rattle.rules.specs.Outcome.{Outcome, outcome, refuse, taken}
 use Rattle.rules.specs.Submit.{namesUnfiled, afterSubmit, onSubmit, onIssue, onFile}
 use Rattle.rules.specs.Deliver.{settle, expectsPrepare, afterPrepare, afterCommit, onAg, expectsUpdate, afterUpdate, onUp, switches, afterSwitch, onSw, onDeliver}

@@ -4,7 +4,7 @@ use Prim.Native.Nat.{ℕ, _≤_}
 use Rattle.terms.specs.Kit.{Kit, Entry}
 use Rattle.rules.specs.Room.{Room, freshRoom}
 use Rattle.rules.specs.Play.{step, play, after}
-use Rattle.rules.specs.Growth.{after-later}
+use Rattle.rules.specs.laws.Growth.{after-later}
 
 module _ {ℓ} (kit : Kit) (P : Room → Type ℓ) (keeps : (r : Room) (e : Entry) → P r → P (step kit r e .room)) where
   pub play-keeps : (r : Room) (es : List Entry) → P r → P (play kit r es)

@@ -20,7 +20,7 @@ use Rattle.rules.specs.Clock.{tick}
 use Rattle.rules.specs.Outcome.{Outcome}
 use Rattle.rules.specs.Deliver.{onDeliver}
 use Rattle.rules.specs.Play.{onEvent, step}
-use Rattle.rules.specs.Growth.{Grows, event-grows}
+use Rattle.rules.specs.laws.Growth.{Grows, event-grows}
 use Rattle.rules.specs.laws.Refused.{tick-ticked}
 use Rattle.rules.specs.laws.Answered.{answered-stays}
 use Rattle.rules.specs.laws.Idle.{Quiet, tick-quiet, overdue-kept, tick-zero}

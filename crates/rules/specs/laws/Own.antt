@@ -15,8 +15,8 @@ use Rattle.terms.specs.declared.Answer.{Answer}
 use Rattle.rules.specs.Table.{ag, up, sw}
 use Rattle.rules.specs.Room.{Room, Replica, put1, withReplica, issue, accept}
 use Rattle.rules.specs.Reading.{contentAt, firstOf}
-use Rattle.rules.specs.RoomLaws.{put-back, put-again, put-apart}
-use Rattle.rules.specs.ReadingLaws.{held-same}
+use Rattle.rules.specs.laws.RoomLaws.{put-back, put-again, put-apart}
+use Rattle.rules.specs.laws.ReadingLaws.{held-same}
 use Rattle.rules.specs.Outcome.{Outcome, refuse, taken}
 use Rattle.rules.specs.Deliver.{settle, switches, afterPrepare, afterCommit, onAg, afterUpdate, onUp, afterSwitch, onSw, expectsPrepare, expectsUpdate, onDeliver}
 

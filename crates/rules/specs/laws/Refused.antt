@@ -12,7 +12,7 @@ use Rattle.rules.specs.Room.{Room, withClock, withLate}
 use Rattle.rules.specs.Clock.{tick}
 use Rattle.rules.specs.Play.{step, after, answer}
 use Rattle.rules.specs.laws.Changes.{event-comes}
-use Rattle.rules.specs.Growth.{after-suc}
+use Rattle.rules.specs.laws.Growth.{after-suc}
 
 pub refused-is-ticked : (kit : Kit) (r : Room) (e : Entry) → step kit r e .answer ≢ Taken → step kit r e .room ≡ tick kit r (e .gap)
 unfolding step

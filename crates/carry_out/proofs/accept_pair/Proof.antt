@@ -1,0 +1,13 @@
+-- `accept_pair`: the steps in their order. Assumes nothing.
+use borrow.Author.Needs.{needs}
+use Rattle.carry_out.specs.Apply.{pairOn}
+use Rattle.carry_out.proofs.accept_pair.Statement.{statement}
+use Rattle.carry_out.proofs.accept_pair.Tie as tie
+
+pub accept-pair-spec : {M : Type 1} → statement M
+unfolding pairOn
+accept-pair-spec =
+    tie.close
+    (tie.spec
+    (λ c κs. search needs) (λ c κs. search needs) (λ c κs. search needs) (λ c κs. search needs)
+    (λ c. rw (← c .before .before .before .before .before .before .before .accept .ensures, ← c .before .before .before .settled-count .ensures, ← c .before .mark-of-pair .ensures, ← c .with-mark .ensures)))

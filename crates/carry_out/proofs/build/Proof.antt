@@ -1,0 +1,15 @@
+-- `build`: past the last number nothing is done; else HISTORY twice, then as a hand. Assumes nothing.
+use borrow.Author.Needs.{needs}
+use borrow.Author.Tests.{le-leb, lt-leb}
+use Rattle.carry_out.specs.Apply.{buildOn}
+use Rattle.carry_out.proofs.build.Statement.{statement}
+use Rattle.carry_out.proofs.build.Tie as tie
+
+pub build-spec : {M : Type 1} → statement M
+unfolding buildOn
+build-spec =
+    tie.close
+    (tie.spec
+    (λ c. rw (le-leb _ _ (c .if1 .taken)))
+    (λ c. search needs) (λ c κs. search needs) (λ c κs. search needs) (λ c κs. search needs)
+    (λ c. rw (lt-leb _ _ (c .before .before .before .before .before .before .before .before .before .if1 .left), ← c .before .before .before .before .before .before .issue .ensures, ← c .before .before .before .issue2 .ensures, ← c .hand .ensures)))

@@ -1,0 +1,19 @@
+-- `build` meets its contract. Assumes nothing.
+use borrow.Author.Needs.{needs}
+use Rattle.decide.specs.Decided.{decideBuildOn}
+use Rattle.decide.proofs.build.Statement.{statement}
+use Rattle.decide.proofs.build.Tie as tie
+
+pub build-spec : {M : Type 1} → statement M
+unfolding decideBuildOn
+build-spec =
+    tie.close
+    (tie.spec
+    (λ c κs. search needs)
+    (λ c. rw (← c .before .is-faulty .ensures, c .if1 .taken))
+    (λ c κs. search needs)
+    (λ c. rw (← c .before .before .before .is-faulty .ensures, c .before .before .if1 .left, ← c .before .is-running .ensures, c .if2 .taken))
+    (λ c. rw (← c .before .before .before .before .is-faulty .ensures, c .before .before .before .if1 .left, ← c .before .before .is-running .ensures, c .before .if2 .left, c .if3 .taken))
+    (λ c κs. search needs)
+    (λ c κs. search needs)
+    (λ c. rw (← c .before .before .before .before .before .before .is-faulty .ensures, c .before .before .before .before .before .if1 .left, ← c .before .before .before .before .is-running .ensures, c .before .before .before .if2 .left, c .before .before .if3 .left, ← c .before .total .ensures, ← c .settled-count .ensures)))

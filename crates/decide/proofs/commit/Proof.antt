@@ -1,0 +1,18 @@
+-- `commit` meets its contract. Assumes nothing.
+use borrow.Author.Needs.{needs}
+use Rattle.decide.specs.Decided.{decideCommitOn}
+use Rattle.decide.proofs.commit.Statement.{statement}
+use Rattle.decide.proofs.commit.Tie as tie
+
+pub commit-spec : {M : Type 1} → statement M
+unfolding decideCommitOn
+commit-spec =
+    tie.close
+    (tie.spec
+    (λ c κs. search needs)
+    (λ c κs. search needs)
+    (λ c κs. search needs)
+    (λ c κs. search needs)
+    (λ c. rw (← c .before .before .before .before .before .is-noted .ensures, c .before .before .before .before .if1 .taken, ← c .before .before .before .place-of .ensures, ← c .before .before .entry .ensures, ← c .before .is-same .ensures, c .if2 .taken))
+    (λ c. rw (← c .before .before .before .before .before .is-noted .ensures, c .before .before .before .before .if1 .taken, ← c .before .before .before .place-of .ensures, ← c .before .before .entry .ensures, ← c .before .is-same .ensures, c .if2 .left))
+    (λ c. rw (← c .before .is-noted .ensures, c .if1 .left)))

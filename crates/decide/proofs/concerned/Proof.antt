@@ -1,0 +1,33 @@
+-- `concerned` meets its contract. Assumes nothing.
+use borrow.Author.Needs.{needs}
+use Rattle.decide.specs.Decided.{concernedIn}
+use Rattle.decide.proofs.concerned.Statement.{statement}
+use Rattle.decide.proofs.concerned.Tie as tie
+
+pub concerned-spec : {M : Type 1} → statement M
+unfolding concernedIn
+concerned-spec =
+    tie.close
+    (tie.spec
+    (λ c. search needs)
+    (λ c κs. search needs)
+    (λ c. search needs)
+    (λ c κs. search needs)
+    (λ c. search needs)
+    (λ c κs. search needs)
+    (λ c. search needs)
+    (λ c κs. search needs)
+    (λ c. search needs)
+    (λ c κs. search needs)
+    (λ c. search needs)
+    (λ c. search needs)
+    (λ c κs. search needs)
+    (λ c. search needs)
+    (λ c. rw (c .before .enum-told .given .1, ← c .below-seven .ensures))
+    (λ c. rw (c .before .before .event .given .1, ← c .below-seven2 .ensures))
+    (λ c. rw (c .before .before .event2 .given .1, ← c .below-seven3 .ensures))
+    (λ c. rw (c .before .before .event3 .given .1, ← c .below-seven4 .ensures))
+    (λ c. rw (c .before .before .event4 .given .1, ← c .below-seven5 .ensures))
+    (λ c. rw (c .enum-told2 .given .1))
+    (λ c. rw (c .before .enum-told3 .given .1, ← c .below-seven6 .ensures))
+    (λ c. rw (c .enum-told4 .given .1)))

@@ -1,0 +1,21 @@
+-- `hold` meets its contract. Assumes nothing.
+use borrow.Author.Tests.{eq-eqb, ne-eqb}
+use borrow.Author.Needs.{needs}
+use Rattle.decide.specs.Decided.{decideHoldOn}
+use Rattle.decide.proofs.hold.Statement.{statement}
+use Rattle.decide.proofs.hold.Tie as tie
+
+pub hold-spec : {M : Type 1} → statement M
+unfolding decideHoldOn
+hold-spec =
+    tie.close
+    (tie.spec
+    (λ c. rw (c .if1 .taken))
+    (λ c κs. search needs)
+    (λ c. rw (c .before .before .if1 .left, ← c .before .is-closed .ensures, c .if2 .taken))
+    (λ c κs. search needs)
+    (λ c. rw (c .before .before .before .before .if1 .left, ← c .before .before .before .is-closed .ensures, c .before .before .if2 .left, ← c .before .is-running .ensures, c .if3 .taken))
+    (λ c. rw (c .before .before .before .before .before .before .if1 .left, ← c .before .before .before .before .before .is-closed .ensures, c .before .before .before .before .if2 .left, ← c .before .before .before .is-running .ensures, c .before .before .if3 .left, eq-eqb _ _ (c .if4 .taken)))
+    (λ c κs. search needs)
+    (λ c. rw (c .before .before .before .before .before .before .before .before .if1 .left, ← c .before .before .before .before .before .before .before .is-closed .ensures, c .before .before .before .before .before .before .if2 .left, ← c .before .before .before .before .before .is-running .ensures, c .before .before .before .before .if3 .left, ne-eqb _ _ (c .before .before .if4 .left), ← c .before .is-valid .ensures, c .if5 .taken))
+    (λ c. rw (c .before .before .before .before .before .before .before .before .if1 .left, ← c .before .before .before .before .before .before .before .is-closed .ensures, c .before .before .before .before .before .before .if2 .left, ← c .before .before .before .before .before .is-running .ensures, c .before .before .before .before .if3 .left, ne-eqb _ _ (c .before .before .if4 .left), ← c .before .is-valid .ensures, c .if5 .left)))

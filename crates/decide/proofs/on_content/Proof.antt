@@ -1,0 +1,23 @@
+-- `on_content` meets its contract. Assumes nothing.
+use borrow.Author.Tests.{eq-eqb, ne-eqb}
+use borrow.Author.Needs.{needs}
+use Rattle.decide.specs.Decided.{decideContentOn}
+use Rattle.decide.proofs.on_content.Statement.{statement}
+use Rattle.decide.proofs.on_content.Tie as tie
+
+pub on-content-spec : {M : Type 1} → statement M
+unfolding decideContentOn
+on-content-spec =
+    tie.close
+    (tie.spec
+    (λ c κs. search needs)
+    (λ c. rw (eq-eqb _ _ (c .before .before .if1 .taken), eq-eqb _ _ (c .before .if2 .taken), ← c .prepare .ensures))
+    (λ c κs. search needs)
+    (λ c. rw (eq-eqb _ _ (c .before .before .if1 .taken), ne-eqb _ _ (c .before .if2 .left), ← c .commit .ensures))
+    (λ c κs. search needs)
+    (λ c κs. search needs)
+    (λ c. rw (ne-eqb _ _ (c .before .before .before .before .if1 .left), eq-eqb _ _ (c .before .before .before .if3 .taken), ← c .before .before .is-noted .ensures, c .before .if4 .taken, ← c .known-pair .ensures))
+    (λ c κs. search needs)
+    (λ c. rw (ne-eqb _ _ (c .before .before .before .before .if1 .left), eq-eqb _ _ (c .before .before .before .if3 .taken), ← c .before .before .is-noted .ensures, c .before .if4 .left, ← c .new-pair .ensures))
+    (λ c κs. search needs)
+    (λ c. rw (ne-eqb _ _ (c .before .before .if1 .left), ne-eqb _ _ (c .before .if3 .left), ← c .switch .ensures)))

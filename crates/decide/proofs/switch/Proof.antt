@@ -1,0 +1,15 @@
+-- `switch` meets its contract. Assumes nothing.
+use borrow.Author.Needs.{needs}
+use Rattle.decide.specs.Decided.{decideSwitchOn}
+use Rattle.decide.proofs.switch.Statement.{statement}
+use Rattle.decide.proofs.switch.Tie as tie
+
+pub switch-spec : {M : Type 1} → statement M
+unfolding decideSwitchOn
+switch-spec =
+    tie.close
+    (tie.spec
+    (λ c κs. search needs)
+    (λ c. rw (c .before .before .if1 .taken, ← c .before .is-same .ensures, c .if2 .taken))
+    (λ c. rw (c .before .before .if1 .taken, ← c .before .is-same .ensures, c .if2 .left))
+    (λ c. rw (c .if1 .left)))

@@ -1,0 +1,691 @@
+// What an event comes to: the answers in their order, and what is to be done where the event is taken. Everything is read, nothing changed.
+ghost use mathlib.Core.Path.{_≡_};
+ghost use Rattle.terms.specs.Numbers.{answerNumber};
+ghost use Rattle.room.specs.Decide.{answerOf};
+ghost use mathlib.Core.Option.{some};
+ghost use Prim.Native.Nat.{_-_};
+ghost use mathlib.Core.Bool.{not, _&&_};
+ghost use lib.Dec.{leb, eqb};
+ghost use lib.ListN.{getD};
+ghost use Rattle.rules.specs.Table.{sw};
+ghost use Rattle.rules.specs.Reading.{isRunning, isClosed, isFaulty};
+ghost use Rattle.decide.specs.Decided.{switchLeaderOf, belowSeven, concernedIn, decideSubmitOn, namesUnfiledIn, decideIssueOn, isNewIn, decidePrepareOn, decideCommitOn, decidePairOn, decideUpdateOn, decideSwitchOn, decideContentOn, isTooLateIn, hasWrongRolesIn, decideReceiveOn, decideDeliverOn, decideHoldOn, decideHandOn, decidePanicOn, decideBuildOn, decideFileOn, decideOn};
+use ledger::Issued;
+use ledger::Ledger;
+use room::Decision;
+use room::Desk;
+use room::Roles;
+use room::Standing;
+use terms::Answer;
+use terms::Condition;
+use terms::Content;
+use terms::ContentChoice;
+use terms::Event;
+
+// A number as an index.
+fn wide(x: u32) -> usize
+    ensures { λ r. ⌜ r ≡ x ⌝ }
+{
+    x as usize
+}
+
+// The place of a value in a list: values count from 1.
+fn place_of(value: u32) -> usize
+    ensures { λ r. ⌜ r ≡ value - 1 ⌝ }
+{
+    if value == 0 {
+        return 0;
+    }
+    wide(value - 1)
+}
+
+// An entry of a list, 0 where it has none.
+fn entry(list: &[u32; 64], i: usize) -> u32
+    ensures { λ r. ⌜ r ≡ getD (now (list .entry)) i 0 ⌝ }
+{
+    let entries: &[u32] = list;
+    if entries.len() <= i {
+        return 0;
+    }
+    entries[i]
+}
+
+fn is_running(condition: Condition) -> bool
+    ensures { λ r. ⌜ r ≡ isRunning condition ⌝ }
+{
+    match condition {
+        Condition::Running => true,
+        Condition::Halted => false,
+        Condition::Closed => false,
+        Condition::Faulty => false,
+    }
+}
+
+fn is_closed(condition: Condition) -> bool
+    ensures { λ r. ⌜ r ≡ isClosed condition ⌝ }
+{
+    match condition {
+        Condition::Running => false,
+        Condition::Halted => false,
+        Condition::Closed => true,
+        Condition::Faulty => false,
+    }
+}
+
+fn is_faulty(condition: Condition) -> bool
+    ensures { λ r. ⌜ r ≡ isFaulty condition ⌝ }
+{
+    match condition {
+        Condition::Running => false,
+        Condition::Halted => false,
+        Condition::Closed => false,
+        Condition::Faulty => true,
+    }
+}
+
+// The active replica of lowest number apart from the leader.
+pub fn switch_leader(table: &[u32; 7], leader: usize) -> usize
+    ensures { λ r. ⌜ r ≡ switchLeaderOf (now (table .entry)) leader ⌝ }
+{
+    let entries: &[u32] = table;
+    let mut x: usize = 0;
+    while x < entries.len() {
+        if replica::is_active(entries[x]) {
+            if x != leader {
+                return x;
+            }
+            x = x + 1;
+        } else {
+            x = x + 1;
+        }
+    }
+    0
+}
+
+// One of the seven records.
+fn below_seven(n: usize) -> usize
+    ensures { λ r. ⌜ r ≡ belowSeven n ⌝ }
+{
+    if 7 <= n {
+        return 0;
+    }
+    n
+}
+
+// The replica whose record an event concerns: the leader where a request is submitted, the switch leader where it builds.
+pub fn concerned(event: Event, roles: Roles) -> usize
+    ensures { λ r. ⌜ r ≡ concernedIn event roles ⌝ }
+{
+    match event {
+        Event::Submit(_) => below_seven(roles.leader),
+        Event::Issue(x, _, _) => below_seven(x),
+        Event::Deliver(_, _, _, to) => below_seven(to),
+        Event::Hand(_, _, to) => below_seven(to),
+        Event::Panic(to) => below_seven(to),
+        Event::Idle => 0,
+        Event::Build => below_seven(roles.switcher),
+        Event::File(_, _) => 0,
+    }
+}
+
+// Kind 1: already submitted; 64 submitted.
+fn submit(requests: &[u32; 64], submitted: usize, request: u32) -> Decision
+    ensures { λ r. ⌜ r ≡ decideSubmitOn (now (requests .entry)) submitted request ⌝ }
+{
+    if replica::holds(requests, submitted, request) {
+        return Decision::Refuse(Answer::AlreadySubmitted);
+    }
+    if 64 <= submitted {
+        return Decision::Refuse(Answer::SubmissionsFull);
+    }
+    Decision::Submit(request)
+}
+
+// HISTORY or SWITCH of a number that is not filed yet.
+fn names_unfiled(histories: usize, content: Content) -> bool
+    ensures { λ r. ⌜ r ≡ namesUnfiledIn histories content ⌝ }
+{
+    match content {
+        Content::Prepare(_) => false,
+        Content::Commit(_, _) => false,
+        Content::Update(_, _) => false,
+        Content::History(number) => histories <= wide(number),
+        Content::Switch(number) => histories <= wide(number),
+    }
+}
+
+// Kind 2: not faulty; an unfiled history named; the counter full.
+fn issue(
+    issued: &Issued,
+    condition: Condition,
+    histories: usize,
+    x: usize,
+    name: usize,
+    content: Content,
+) -> Decision
+    ensures { λ r. ⌜ r ≡ decideIssueOn (now (issued .entry)) condition histories x name content ⌝ }
+{
+    if is_faulty(condition) {
+        if names_unfiled(histories, content) {
+            return Decision::Refuse(Answer::Unexpected);
+        }
+        if 96 <= ledger::total(issued, x, name) {
+            return Decision::Refuse(Answer::CounterFull);
+        }
+        return Decision::Issue(x, name, content);
+    }
+    Decision::Refuse(Answer::NotFaulty)
+}
+
+// A request that is submitted and that the receiver has not noted yet.
+fn is_new(
+    requests: &[u32; 64],
+    submitted: usize,
+    noted: &[u32; 64],
+    count: usize,
+    request: u32,
+) -> bool
+    ensures { λ r. ⌜ r ≡ isNewIn (now (requests .entry)) submitted (now (noted .entry)) count request ⌝ }
+{
+    if replica::holds(requests, submitted, request) {
+        if replica::holds(noted, count, request) {
+            return false;
+        }
+        return true;
+    }
+    false
+}
+
+// From the leader: PREPARE of a new request.
+fn prepare(
+    requests: &[u32; 64],
+    submitted: usize,
+    noted: &[u32; 64],
+    count: usize,
+    sender: usize,
+    value: u32,
+    content: Content,
+) -> Decision
+    ensures { λ r. ⌜ r ≡ decidePrepareOn (now (requests .entry)) submitted (now (noted .entry)) count sender value (some content) ⌝ }
+{
+    let request = validity::first_of(content);
+    if validity::is_same(content, Content::Prepare(request)) {
+        if is_new(requests, submitted, noted, count, request) {
+            return Decision::Prepare(sender, value, request);
+        }
+        return Decision::Refuse(Answer::Unexpected);
+    }
+    Decision::Refuse(Answer::Unexpected)
+}
+
+// The receiver has noted a request of this value.
+fn is_noted(value: u32, count: usize) -> bool
+    ensures { λ r. ⌜ r ≡ leb value count ⌝ }
+{
+    wide(value) <= count
+}
+
+// From another active replica: COMMIT of the receiver's noted request of that value, which must exist.
+fn commit(noted: &[u32; 64], count: usize, sender: usize, value: u32, content: Content) -> Decision
+    ensures { λ r. ⌜ r ≡ decideCommitOn (now (noted .entry)) count sender value (some content) ⌝ }
+{
+    if is_noted(value, count) {
+        let request = entry(noted, place_of(value));
+        if validity::is_same(content, Content::Commit(request, value)) {
+            return Decision::Commit(sender, value);
+        }
+        return Decision::Refuse(Answer::Unexpected);
+    }
+    Decision::Refuse(Answer::Unexpected)
+}
+
+// A pair that the receiver has noted: UPDATE equal to it.
+fn known_pair(
+    noted: &[u32; 64],
+    marks: &[u32; 64],
+    sender: usize,
+    value: u32,
+    content: Content,
+) -> Decision
+    ensures { λ r. ⌜ r ≡ decidePairOn (now (noted .entry)) (now (marks .entry)) sender value (some content) ⌝ }
+{
+    let i = place_of(value);
+    let request = entry(noted, i);
+    let mark = entry(marks, i);
+    if validity::is_same(content, Content::Update(request, mark)) {
+        return Decision::KnownPair(sender, value);
+    }
+    Decision::Refuse(Answer::Unexpected)
+}
+
+// A pair that the receiver has not noted: UPDATE of a new request.
+fn new_pair(
+    requests: &[u32; 64],
+    submitted: usize,
+    noted: &[u32; 64],
+    count: usize,
+    sender: usize,
+    value: u32,
+    content: Content,
+) -> Decision
+    ensures { λ r. ⌜ r ≡ decideUpdateOn (now (requests .entry)) submitted (now (noted .entry)) count sender value (some content) ⌝ }
+{
+    let request = validity::first_of(content);
+    let mark = validity::second_of(content);
+    if validity::is_same(content, Content::Update(request, mark)) {
+        if is_new(requests, submitted, noted, count, request) {
+            return Decision::NewPair(sender, value, request, mark);
+        }
+        return Decision::Refuse(Answer::Unexpected);
+    }
+    Decision::Refuse(Answer::Unexpected)
+}
+
+// On sw: SWITCH of the history that the receiver holds.
+fn switch(holding: bool, held: u32, sender: usize, value: u32, content: Content) -> Decision
+    ensures { λ r. ⌜ r ≡ decideSwitchOn holding held sender value (some content) ⌝ }
+{
+    if holding {
+        if validity::is_same(content, Content::Switch(held)) {
+            return Decision::Switch(sender, value);
+        }
+        return Decision::Refuse(Answer::Unexpected);
+    }
+    Decision::Refuse(Answer::Unexpected)
+}
+
+// What is expected, by the counter's name.
+fn on_content(
+    standing: Standing,
+    leader: usize,
+    noted: &[u32; 64],
+    marks: &[u32; 64],
+    requests: &[u32; 64],
+    submitted: usize,
+    sender: usize,
+    name: usize,
+    value: u32,
+    content: Content,
+) -> Decision
+    ensures { λ r. ⌜ r ≡ decideContentOn standing leader (now (noted .entry)) (now (marks .entry)) (now (requests .entry)) submitted sender name value (some content) ⌝ }
+{
+    let count = standing.count;
+    if name == 0 {
+        if sender == leader {
+            return prepare(requests, submitted, noted, count, sender, value, content);
+        }
+        return commit(noted, count, sender, value, content);
+    }
+    if name == 1 {
+        if is_noted(value, count) {
+            return known_pair(noted, marks, sender, value, content);
+        }
+        return new_pair(requests, submitted, noted, count, sender, value, content);
+    }
+    switch(standing.holding, standing.held, sender, value, content)
+}
+
+// On ag or up to a halted or closed receiver; on sw to a closed one.
+fn is_too_late(name: usize, condition: Condition) -> bool
+    ensures { λ r. ⌜ r ≡ isTooLateIn name condition ⌝ }
+{
+    if name == 2 {
+        return is_closed(condition);
+    }
+    if is_running(condition) {
+        return false;
+    }
+    true
+}
+
+// On sw to a receiver that holds no history.
+fn is_too_early(name: usize, holding: bool) -> bool
+    ensures { λ r. ⌜ r ≡ eqb name sw && not holding ⌝ }
+{
+    if name == 2 {
+        return !holding;
+    }
+    false
+}
+
+// The sender is not the receiver; ag needs both active; up needs an active sender and a passive receiver.
+fn has_wrong_roles(table: &[u32; 7], sender: usize, name: usize, to: usize) -> bool
+    ensures { λ r. ⌜ r ≡ hasWrongRolesIn (now (table .entry)) sender name to ⌝ }
+{
+    if sender == to {
+        return true;
+    }
+    let from = replica::is_active_at(table, sender);
+    let at = replica::is_active_at(table, to);
+    if name == 0 {
+        if from {
+            return !at;
+        }
+        return true;
+    }
+    if name == 1 {
+        if from {
+            return at;
+        }
+        return true;
+    }
+    false
+}
+
+// Kind 3 once the certificate is known to be issued: too late; too early; roles; not the next value; then the content.
+fn receive(
+    standing: Standing,
+    leader: usize,
+    noted: &[u32; 64],
+    marks: &[u32; 64],
+    accepted: &[u32; 21],
+    table: &[u32; 7],
+    requests: &[u32; 64],
+    submitted: usize,
+    sender: usize,
+    name: usize,
+    value: u32,
+    to: usize,
+    content: Content,
+) -> Decision
+    ensures { λ r. ⌜ r ≡ decideReceiveOn standing leader (now (noted .entry)) (now (marks .entry)) (now (accepted .entry)) (now (table .entry)) (now (requests .entry)) submitted sender name value to (some content) ⌝ }
+{
+    let condition = standing.condition;
+    if is_too_late(name, condition) {
+        return Decision::Refuse(Answer::TooLate);
+    }
+    if is_too_early(name, standing.holding) {
+        return Decision::Refuse(Answer::TooEarly);
+    }
+    if has_wrong_roles(table, sender, name, to) {
+        return Decision::Refuse(Answer::WrongRoles);
+    }
+    let last = wide(replica::accepted_of(accepted, sender, name));
+    if validity::is_next(value, last) {
+        return on_content(
+            standing,
+            leader,
+            noted,
+            marks,
+            requests,
+            submitted,
+            sender,
+            name,
+            value,
+            content,
+        );
+    }
+    Decision::Refuse(Answer::NotNext)
+}
+
+// Kind 3: receiver faulty; not issued; then what the receiver makes of it.
+fn deliver(
+    standing: Standing,
+    leader: usize,
+    noted: &[u32; 64],
+    marks: &[u32; 64],
+    accepted: &[u32; 21],
+    table: &[u32; 7],
+    requests: &[u32; 64],
+    submitted: usize,
+    ledger: &Ledger,
+    issued: &Issued,
+    sender: usize,
+    name: usize,
+    value: u32,
+    to: usize,
+) -> Decision
+    ensures { λ r. ⌜ r ≡ decideDeliverOn standing leader (now (noted .entry)) (now (marks .entry)) (now (accepted .entry)) (now (table .entry)) (now (requests .entry)) submitted (now (ledger .entry)) (now (issued .entry)) sender name value to ⌝ }
+{
+    let condition = standing.condition;
+    if is_faulty(condition) {
+        return Decision::Refuse(Answer::ReceiverFaulty);
+    }
+    let found = ledger::look_up(ledger, issued, sender, name, value);
+    match found {
+        ContentChoice::Content(content) => receive(
+            standing,
+            leader,
+            noted,
+            marks,
+            accepted,
+            table,
+            requests,
+            submitted,
+            sender,
+            name,
+            value,
+            to,
+            content,
+        ),
+        ContentChoice::Refused => Decision::Refuse(Answer::NotIssued),
+    }
+}
+
+// Kind 4 once both certificates are known to be issued, the one on ag of history h: too late; too early; roles; not valid.
+fn hold(
+    standing: Standing,
+    roles: Roles,
+    desk: Desk,
+    table: &[u32; 7],
+    requests: &[u32; 64],
+    heads: &[[usize; 3]; 8],
+    lists: &[[u32; 64]; 8],
+    ledger: &Ledger,
+    issued: &Issued,
+    p: u32,
+    q: u32,
+    to: usize,
+    h: u32,
+) -> Decision
+    ensures { λ r. ⌜ r ≡ decideHoldOn standing roles desk (now (table .entry)) (now (requests .entry)) (now (heads .entry)) (now (lists .entry)) (now (ledger .entry)) (now (issued .entry)) p q to h ⌝ }
+{
+    let condition = standing.condition;
+    if standing.holding {
+        return Decision::Refuse(Answer::TooLate);
+    }
+    if is_closed(condition) {
+        return Decision::Refuse(Answer::TooLate);
+    }
+    if is_running(condition) {
+        return Decision::Refuse(Answer::TooEarly);
+    }
+    if to == roles.switcher {
+        return Decision::Refuse(Answer::WrongRoles);
+    }
+    if validity::is_valid(
+        ledger,
+        issued,
+        table,
+        roles.leader,
+        roles.switcher,
+        requests,
+        desk.submitted,
+        heads,
+        lists,
+        desk.histories,
+        h,
+        p,
+        q,
+    ) {
+        return Decision::Hand(h);
+    }
+    Decision::Refuse(Answer::NotValid)
+}
+
+// Kind 4: receiver faulty; either certificate not issued; then whether the history is held.
+fn hand(
+    standing: Standing,
+    roles: Roles,
+    desk: Desk,
+    table: &[u32; 7],
+    requests: &[u32; 64],
+    heads: &[[usize; 3]; 8],
+    lists: &[[u32; 64]; 8],
+    ledger: &Ledger,
+    issued: &Issued,
+    p: u32,
+    q: u32,
+    to: usize,
+) -> Decision
+    ensures { λ r. ⌜ r ≡ decideHandOn standing roles desk (now (table .entry)) (now (requests .entry)) (now (heads .entry)) (now (lists .entry)) (now (ledger .entry)) (now (issued .entry)) p q to ⌝ }
+{
+    let condition = standing.condition;
+    if is_faulty(condition) {
+        return Decision::Refuse(Answer::ReceiverFaulty);
+    }
+    let first = ledger::look_up(ledger, issued, roles.switcher, 0, p);
+    let second = ledger::look_up(ledger, issued, roles.switcher, 1, q);
+    match first {
+        ContentChoice::Content(content) => match second {
+            ContentChoice::Content(_) => {
+                let h = validity::first_of(content);
+                hold(
+                    standing,
+                    roles,
+                    desk,
+                    table,
+                    requests,
+                    heads,
+                    lists,
+                    ledger,
+                    issued,
+                    p,
+                    q,
+                    to,
+                    h,
+                )
+            }
+            ContentChoice::Refused => Decision::Refuse(Answer::NotIssued),
+        },
+        ContentChoice::Refused => Decision::Refuse(Answer::NotIssued),
+    }
+}
+
+// Kind 5: receiver faulty; halted or closed.
+fn panic(condition: Condition) -> Decision
+    ensures { λ r. ⌜ r ≡ decidePanicOn condition ⌝ }
+{
+    match condition {
+        Condition::Running => Decision::Panic,
+        Condition::Halted => Decision::Refuse(Answer::TooLate),
+        Condition::Closed => Decision::Refuse(Answer::TooLate),
+        Condition::Faulty => Decision::Refuse(Answer::ReceiverFaulty),
+    }
+}
+
+// Kind 7: the switch leader faulty, running, or holding a history. j is its settled count, k its ag total.
+fn build(
+    standing: Standing,
+    roles: Roles,
+    accepted: &[u32; 21],
+    table: &[u32; 7],
+    issued: &Issued,
+) -> Decision
+    ensures { λ r. ⌜ r ≡ decideBuildOn standing roles (now (accepted .entry)) (now (table .entry)) (now (issued .entry)) ⌝ }
+{
+    let condition = standing.condition;
+    if is_faulty(condition) {
+        return Decision::Refuse(Answer::CannotBuild);
+    }
+    if is_running(condition) {
+        return Decision::Refuse(Answer::CannotBuild);
+    }
+    if standing.holding {
+        return Decision::Refuse(Answer::CannotBuild);
+    }
+    let k = ledger::total(issued, roles.switcher, 0);
+    let j = replica::settled_count(accepted, table, roles.leader, roles.switcher, k);
+    Decision::Build(j, k)
+}
+
+// Kind 8: events 8 have filed seven.
+fn file(filed: usize, j: u32, k: u32) -> Decision
+    ensures { λ r. ⌜ r ≡ decideFileOn filed j k ⌝ }
+{
+    if 7 <= filed {
+        return Decision::Refuse(Answer::FilesFull);
+    }
+    Decision::File(j, k)
+}
+
+// What an event comes to: a refusal, by the answers in their order, or what is to be done. `standing`, `noted`, `marks` and `accepted` are
+// of the replica concerned.
+pub fn decide<'a>(
+    event: Event,
+    standing: Standing,
+    desk: Desk,
+    roles: Roles,
+    noted: &'a [u32; 64],
+    marks: &'a [u32; 64],
+    accepted: &'a [u32; 21],
+    table: &[u32; 7],
+    requests: &[u32; 64],
+    heads: &[[usize; 3]; 8],
+    lists: &[[u32; 64]; 8],
+    ledger: &Ledger,
+    issued: &Issued,
+) -> Decision
+    ensures { λ r. ⌜ r ≡ decideOn event standing desk roles (now (noted .entry)) (now (marks .entry)) (now (accepted .entry)) (now (table .entry)) (now (requests .entry)) (now (heads .entry)) (now (lists .entry)) (now (ledger .entry)) (now (issued .entry)) ⌝ }
+{
+    let c = standing.condition;
+    match event {
+        Event::Submit(request) => submit(requests, desk.submitted, request),
+        Event::Issue(x, name, content) => issue(issued, c, desk.histories, x, name, content),
+        Event::Deliver(sender, name, value, to) => deliver(
+            standing,
+            roles.leader,
+            noted,
+            marks,
+            accepted,
+            table,
+            requests,
+            desk.submitted,
+            ledger,
+            issued,
+            sender,
+            name,
+            value,
+            to,
+        ),
+        Event::Hand(p, q, to) => hand(
+            standing,
+            roles,
+            desk,
+            table,
+            requests,
+            heads,
+            lists,
+            ledger,
+            issued,
+            p,
+            q,
+            to,
+        ),
+        Event::Panic(_) => panic(c),
+        Event::Idle => Decision::Idle,
+        Event::Build => build(standing, roles, accepted, table, issued),
+        Event::File(j, k) => file(desk.filed, j, k),
+    }
+}
+
+// The paper's number of what was decided: 0, or the refusal's.
+pub fn answer_of(decision: Decision) -> u32
+    ensures { λ r. ⌜ r ≡ answerNumber (answerOf decision) ⌝ }
+{
+    match decision {
+        Decision::Refuse(answer) => terms::number_of_answer(answer),
+        Decision::Submit(_) => 0,
+        Decision::Issue(_, _, _) => 0,
+        Decision::Prepare(_, _, _) => 0,
+        Decision::Commit(_, _) => 0,
+        Decision::KnownPair(_, _) => 0,
+        Decision::NewPair(_, _, _, _) => 0,
+        Decision::Switch(_, _) => 0,
+        Decision::Hand(_) => 0,
+        Decision::Panic => 0,
+        Decision::Idle => 0,
+        Decision::Build(_, _) => 0,
+        Decision::File(_, _) => 0,
+    }
+}

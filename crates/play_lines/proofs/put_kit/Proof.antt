@@ -1,0 +1,15 @@
+-- `put_kit`: the word, the number, the line's end. Assumes nothing.
+use borrow.Author.Needs.{needs}
+use mathlib.Core.Path.{ap}
+use Rattle.text.specs.TextLaws.{then-lays, lays-as}
+use Rattle.play_lines.specs.Lines.{spaced, kitLine}
+use Rattle.play_lines.proofs.put_kit.Statement.{statement}
+use Rattle.play_lines.proofs.put_kit.Tie as tie
+
+pub put-kit-spec : {M : Type 1} → statement M
+unfolding kitLine
+put-kit-spec =
+    tie.close
+    (tie.spec (λ c. search needs) (λ c κs. search needs) (λ c κs. search needs) (λ c κs. search needs) (λ c κs. search needs) (λ c. search needs)
+    (λ c. then-lays (c .before .before .before .before .before .before .before .before .before .before .before .put-word .ensures)
+    (then-lays (lays-as (c .before .before .before .before .before .before .put-next .ensures) (ap spaced (c .before .before .before .before .before .before .before .wide .ensures))) (c .before .before .put-byte .ensures))))

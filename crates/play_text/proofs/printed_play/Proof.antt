@@ -1,0 +1,18 @@
+-- `printed_play`: the bytes are accepted or refused. Assumes nothing.
+use borrow.Author.Needs.{needs}
+use native.Mathlib.Omega.{arith}
+use borrow.Author.Tests.{eq-eqb, ne-eqb}
+use Rattle.text.specs.TextLaws.{lays-as}
+use Rattle.play_lines.specs.Whole.{ends-within}
+use Rattle.play_text.specs.Printed.{printedText}
+use Rattle.play_text.proofs.printed_play.Statement.{statement}
+use Rattle.play_text.proofs.printed_play.Tie as tie
+
+pub printed-play-spec : {M : Type 1} → statement M
+unfolding printedText
+printed-play-spec =
+    tie.close
+    (tie.spec (λ c κs. search needs) (λ c κs. search needs) (λ c κs. search needs) (λ c. search needs)
+    (λ c. (lays-as (c .before .before .put-played .ensures) (rw (← c .before .before .before .before .before .before .check .ensures, ← c .before .before .before .before .before .number-of-kit .ensures, eq-eqb _ _ (c .before .before .before .before .if1 .taken))), ends-within (c .before .before .put-played .ensures) (omega arith)))
+    (λ c κs. search needs) (λ c. search needs)
+    (λ c. (lays-as (c .before .before .put-kit .ensures) (rw (← c .before .before .before .before .before .before .check .ensures, ← c .before .before .before .before .before .number-of-kit .ensures, ne-eqb _ _ (c .before .before .before .before .if1 .left))), ends-within (c .before .before .put-kit .ensures) (omega arith))))

@@ -1,0 +1,3 @@
+pub mod Packed
+pub mod Lengths
+pub mod OnePacked

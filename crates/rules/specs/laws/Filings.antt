@@ -1,0 +1,231 @@
+-- How many histories are filed: seven by events 8, one by event 7, which is taken once at the most; a correct replica that holds none has issued
+-- nothing on sw, and one that holds one has issued once; a faulty replica's counters have 96 places. In every play of any kit.
+-- Assumes nothing.
+use mathlib.Core.Path.{_≡_, refl, sym, ap, _∙_}
+use mathlib.Core.Bool.{Bool, true, false, and-false, or-true}
+use mathlib.Core.Logic.{_≢_}
+use mathlib.Core.Option.{Option, none, some}
+use mathlib.Core.List.{List, [], _∷_}
+use Prim.Native.Nat.{ℕ, suc, _≤_, _<_}
+use native.Mathlib.Omega.{arith}
+use lib.ListN.{length, take}
+use lib.Dec.{eqb}
+use borrow.Author.Tests.{eqb-true, eqb-false, ne-eqb, leb-false}
+use Rattle.terms.specs.Limits.{filedMax, nameMax}
+use Rattle.terms.specs.Lists.{nth, isSome}
+use Rattle.terms.specs.ListLaws.{split, no-way, length-snoc, or-l, eqb-same}
+use Rattle.terms.specs.Kit.{Kit, Entry}
+use Rattle.terms.specs.declared.Content.{Content}
+use Rattle.terms.specs.declared.Event.{Event}
+use Rattle.terms.specs.declared.Event.the-variants.{Submit, Issue, Deliver, Hand, Panic, Idle, Build, File}
+use Rattle.terms.specs.declared.Answer.{Answer}
+use Rattle.terms.specs.declared.Answer.the-variants.{Taken, CannotBuild}
+use Rattle.rules.specs.Table.{ag, up, sw, switchLeader}
+use Rattle.rules.specs.Room.{Room, Replica, freshRoom, freshReplica, withReplica, issue, withHistory, hold}
+use Rattle.rules.specs.Reading.{isClosed, isFaulty}
+use Rattle.rules.specs.Clock.{tick}
+use Rattle.rules.specs.Outcome.{Outcome, refuse}
+use Rattle.rules.specs.Submit.{onFile}
+use Rattle.rules.specs.Switching.{built, afterBuild, onBuild, afterHand, onHand}
+use Rattle.rules.specs.Play.{onEvent, step, play, after, answer}
+use Rattle.rules.specs.laws.Growth.{after-suc}
+use Rattle.rules.specs.laws.Holding.{Calm, FaultyFew, calm-submit, calm-deliver, calm-panic, calm-faulty-issue, calm-tick, none-of, free-of}
+use Rattle.rules.specs.laws.Holding.{tick-keeps, after-keeps}
+
+-- what a correct replica has issued on sw
+pub record Switched (p : Replica) (sws : List Content) : Type 0 where
+  pub silent : p .held ≡ none → sws ≡ []
+  pub once : length sws ≤ 1
+
+pub record FilesFew (kit : Kit) (r : Room) : Type 0 where
+  pub filed-few : r .filed ≤ filedMax
+  pub histories-few : length (r .histories) ≤ suc (r .filed)
+  pub unbuilt : r .replica (switchLeader kit) .held ≡ none → length (r .histories) ≡ r .filed
+  pub switched : (x : ℕ) → isFaulty (r .replica x .condition) ≡ false → Switched (r .replica x) (r .counter x sw)
+  pub faulty-few : FaultyFew r
+  -- and a correct replica has no other counters
+  pub unnamed : (x name : ℕ) → isFaulty (r .replica x .condition) ≡ false → nameMax < name → r .counter x name ≡ []
+
+few-calm : (kit : Kit) {r r₁ : Room} → Calm r r₁ → FilesFew kit r → FilesFew kit r₁
+few-calm kit c h =
+    record {
+      filed-few = rw (c .filed-same) (h .filed-few);
+      histories-few = rw (c .filed-same, c .histories-same) (h .histories-few);
+      unbuilt = λ e. rw (c .filed-same, c .histories-same) (h .unbuilt (sym (c .held-same (switchLeader kit)) ∙ e));
+      switched = λ x f.
+          let fx = sym (c .faulty-same x) ∙ f in
+          let s = h .switched x fx in
+          rw (c .others-same x sw fx (omega arith)) (record { silent = λ e. s .silent (sym (c .held-same x) ∙ e); once = s .once });
+      faulty-few = c .faulty-few (h .faulty-few);
+      unnamed = λ x n f l. let fx = sym (c .faulty-same x) ∙ f in c .others-same x n fx (omega arith) ∙ h .unnamed x n fx l;
+    }
+
+few-refuse : (kit : Kit) (r : Room) → FilesFew kit r → (t : Bool) (a : Answer) (o : Outcome) → (t ≡ false → FilesFew kit (o .room))
+    → FilesFew kit (refuse t a r o .room)
+unfolding refuse
+few-refuse kit r h true a o f = h
+few-refuse kit r h false a o f = f refl
+
+few-file : (kit : Kit) (r : Room) → FilesFew kit r → (j k : ℕ) (list : List ℕ) → FilesFew kit (onFile r j k list .room)
+unfolding onFile withHistory
+few-file kit r h j k list =
+    few-refuse kit r h _ _ _ λ e.
+    let s = length-snoc (r .histories) (record { j = j; k = k; list = list }) in
+    record {
+      filed-few = omega (arith, leb-false filedMax (r .filed) e);
+      histories-few = omega (arith, s, h .histories-few);
+      unbuilt = λ z. omega (arith, s, h .unbuilt z);
+      switched = h .switched;
+      faulty-few = h .faulty-few;
+      unnamed = h .unnamed;
+    }
+
+-- correct replica x, which held nothing, holds h and issues SWITCH of it
+module _ (kit : Kit) (r : Room) (few : FilesFew kit r) (x h : ℕ)
+    (fx : isFaulty (r .replica x .condition) ≡ false) (free : r .replica x .held ≡ none) where
+  switched-hold : (y : ℕ) → isFaulty (afterHand r x h .replica y .condition) ≡ false
+      → Switched (afterHand r x h .replica y) (afterHand r x h .counter y sw)
+  unfolding afterHand issue withReplica hold
+  switched-hold y f =
+      split (eqb y x)
+      (λ t. rw (t, few .switched x fx .silent free) (record { silent = λ e. no-way (cc); once = omega arith }))
+      (λ t. rw t (few .switched y (rw t at f)))
+
+  faulty-few-hold : FaultyFew (afterHand r x h)
+  unfolding afterHand issue withReplica hold
+  faulty-few-hold y n d =
+      split (eqb y x)
+      (λ t. let d₁ : isFaulty (r .replica x .condition) ≡ true = rw t at d in no-way (cc))
+      (λ t. let d₁ : isFaulty (r .replica y .condition) ≡ true = rw t at d in rw (t, and-false (eqb n sw)) (few .faulty-few y n d₁))
+
+  unnamed-hold : (y n : ℕ) → isFaulty (afterHand r x h .replica y .condition) ≡ false → nameMax < n → afterHand r x h .counter y n ≡ []
+  unfolding afterHand issue withReplica hold
+  unnamed-hold y n d l =
+      let z : n ≢ sw = omega arith in
+      rw (ne-eqb n sw z)
+      (split (eqb y x)
+      (λ t. let f : isFaulty (r .replica y .condition) ≡ false = rw (eqb-true y x t) fx in few .unnamed y n f l)
+      (λ t. few .unnamed y n (rw t at d) l))
+
+few-hold : (kit : Kit) (r : Room) → FilesFew kit r → (x h : ℕ) → x ≢ switchLeader kit → isFaulty (r .replica x .condition) ≡ false
+    → r .replica x .held ≡ none
+    → FilesFew kit (afterHand r x h)
+unfolding afterHand issue withReplica
+few-hold kit r few x h d fx free =
+    record {
+      filed-few = few .filed-few;
+      histories-few = few .histories-few;
+      unbuilt = λ e. few .unbuilt (rw (ne-eqb (switchLeader kit) x (λ z. d (sym z))) at e);
+      switched = switched-hold kit r few x h fx free;
+      faulty-few = faulty-few-hold kit r few x h fx free;
+      unnamed = unnamed-hold kit r few x h fx free;
+    }
+
+few-hand : (kit : Kit) (r : Room) → FilesFew kit r → (p q to : ℕ) → FilesFew kit (onHand kit r p q to .room)
+unfolding onHand
+few-hand kit r h p q to =
+    few-refuse kit r h _ _ _ λ fx. few-refuse kit r h _ _ _ λ e₂. few-refuse kit r h _ _ _ λ late. few-refuse kit r h _ _ _ λ e₄.
+    few-refuse kit r h _ _ _ λ e₅. few-refuse kit r h _ _ _ λ e₆.
+    let free = none-of (r .replica to .held) (or-l (isSome (r .replica to .held)) (isClosed (r .replica to .condition)) late) in
+    few-hold kit r h to _ (eqb-false to (switchLeader kit) e₅) fx free
+
+few-build : (kit : Kit) (r : Room) → FilesFew kit r → FilesFew kit (onBuild kit r .room)
+unfolding onBuild afterBuild issue withReplica withHistory hold
+few-build kit r few =
+    few-refuse kit r few _ _ _ λ e.
+    let s = switchLeader kit in
+    let free = free-of _ (r .replica s .held) (λ h eh. simp (eh, or-true)) e in
+    let fs = or-l (isFaulty (r .replica s .condition)) _ e in
+    record {
+      filed-few = few .filed-few;
+      histories-few = omega (arith, length-snoc (r .histories) (built kit r), few .unbuilt free);
+      unbuilt = λ z. let z₁ : _≡_ {A = Option ℕ} (some (length (r .histories))) none = rw (eqb-same s) at z in no-way (cc);
+      switched = λ y f.
+          split (eqb y s)
+          (λ t. rw (t, few .switched s fs .silent free) (record { silent = λ z. no-way (cc); once = omega arith }))
+          (λ t. rw t (few .switched y (rw t at f)));
+      faulty-few = λ y n d.
+          split (eqb y s)
+          (λ t. let d₁ : isFaulty (r .replica s .condition) ≡ true = rw t at d in no-way (cc))
+          (λ t. let d₁ : isFaulty (r .replica y .condition) ≡ true = rw t at d in
+          rw (t, and-false (eqb n ag), and-false (eqb n up), and-false (eqb n sw)) (few .faulty-few y n d₁));
+      unnamed = λ y n d l.
+          let z₀ : n ≢ ag = omega arith in
+          let z₁ : n ≢ up = omega arith in
+          let z₂ : n ≢ sw = omega arith in
+          rw (ne-eqb n ag z₀, ne-eqb n up z₁, ne-eqb n sw z₂)
+          (split (eqb y s)
+          (λ t. let f : isFaulty (r .replica y .condition) ≡ false = rw (eqb-true y s t) fs in few .unnamed y n f l)
+          (λ t. few .unnamed y n (rw t at d) l));
+    }
+
+few-event : (kit : Kit) (r : Room) → FilesFew kit r → (e : Event) (list : List ℕ) → FilesFew kit (onEvent kit r e list .room)
+unfolding onEvent
+few-event kit r h (Submit request) list = few-calm kit (calm-submit kit r request) h
+few-event kit r h (Issue x name content) list = few-calm kit (calm-faulty-issue r x name content) h
+few-event kit r h (Deliver sender name value to) list = few-calm kit (calm-deliver kit r sender name value to) h
+few-event kit r h (Hand p q to) list = few-hand kit r h p q to
+few-event kit r h (Panic to) list = few-calm kit (calm-panic r to) h
+few-event kit r h Idle list = h
+few-event kit r h Build list = few-build kit r h
+few-event kit r h (File j k) list = few-file kit r h j k list
+
+pub few-tick : (kit : Kit) (r : Room) → FilesFew kit r → (gap : ℕ) → FilesFew kit (tick kit r gap)
+few-tick kit r h gap = few-calm kit (calm-tick kit r gap) h
+
+few-play : (kit : Kit) (r : Room) → FilesFew kit r → (es : List Entry) → FilesFew kit (play kit r es)
+unfolding play step
+few-play kit r h [] = h
+few-play kit r h (e ∷ es) = few-play kit _ (few-event kit (tick kit r (e .gap)) (few-tick kit r h (e .gap)) (e .event) (e .requests)) es
+
+few-fresh : (kit : Kit) → FilesFew kit (freshRoom kit)
+unfolding freshRoom freshReplica
+few-fresh kit =
+    record {
+      filed-few = omega arith;
+      histories-few = omega arith;
+      unbuilt = λ e. refl;
+      switched = λ x f. record { silent = λ e. refl; once = omega arith };
+      faulty-few = λ x n f. omega arith;
+      unnamed = λ x n f l. refl;
+    }
+
+pub files-few : (kit : Kit) (n : ℕ) → FilesFew kit (after kit n)
+unfolding after
+files-few kit n = few-play kit (freshRoom kit) (few-fresh kit) (take n (kit .events))
+
+-- ---- event 7
+
+-- what is not refused is what follows
+not-refused : (t : Bool) (a : Answer) (r : Room) (o : Outcome) → (a ≡ Taken → ⊥) → refuse t a r o .answer ≡ Taken → refuse t a r o ≡ o
+unfolding refuse
+not-refused true a r o d e = absurd (d e)
+not-refused false a r o d e = refl
+
+-- taken, the switch leader holds the history that it filed
+pub built-held : (kit : Kit) (r : Room) → afterBuild kit r .replica (switchLeader kit) .held ≡ some (length (r .histories))
+unfolding afterBuild issue withReplica hold
+built-held kit r = rw (eqb-same (switchLeader kit))
+
+build-holds : (kit : Kit) (r : Room) → onBuild kit r .answer ≡ Taken → (h : ℕ) × (onBuild kit r .room .replica (switchLeader kit) .held ≡ some h)
+unfolding onBuild
+build-holds kit r e = (
+  length (r .histories),
+  ap (λ (o : Outcome). o .room .replica (switchLeader kit) .held) (not-refused _ _ r _ (λ z. no-way (cc)) e) ∙ built-held kit r,
+)
+
+-- and while it holds one, event 7 is refused
+holding-refuses : (kit : Kit) (r : Room) (h : ℕ) → r .replica (switchLeader kit) .held ≡ some h → onBuild kit r .answer ≡ CannotBuild
+unfolding onBuild refuse
+holding-refuses kit r h e = simp (e, or-true)
+
+-- so it is taken once at the most
+pub build-once : (kit : Kit) (m n gap gap₁ : ℕ) (list list₁ : List ℕ) → m < n
+    → nth (kit .events) m ≡ some (record { gap = gap; event = Build; requests = list }) → answer kit m ≡ some Taken
+    → nth (kit .events) n ≡ some (record { gap = gap₁; event = Build; requests = list₁ }) → answer kit n ≡ some CannotBuild
+unfolding answer step onEvent
+build-once kit m n gap gap₁ list list₁ l em t en =
+    let t₁ : some (onBuild kit (tick kit (after kit m) gap) .answer) ≡ some Taken = rw em at t in
+    let h = build-holds kit (tick kit (after kit m) gap) (cc) in
+    let k = after-keeps kit (suc m) n l .held (switchLeader kit) (h .0) (rw (after-suc kit m _ em) (h .1)) in
+    rw en (ap some (holding-refuses kit (tick kit (after kit n) gap₁) (h .0) (tick-keeps kit (after kit n) gap₁ .held (switchLeader kit) (h .0) k)))
