@@ -39,7 +39,7 @@ all-ext (k ∷ l) x s t e =
     split (marksActive k) (λ a. rw (a, rest, e x (omega arith))) (λ a. rw (a, rest))
 
 -- no value that the leader has not issued answers a request, since the leader is active
-unanswered-past : (kit : Kit) → Roles kit → (r : Room) (request i : ℕ) → length (r .counter (kit .leader) up) ≤ i → answeredAt kit r request i ≡ false
+unanswered-past : (kit : Kit) → Roles kit → (r : Room) (request i : ℕ) → length (r .counter (kit .leader) up) ≤ i → answeredAt kit r request (suc i) ≡ false
 unfolding answeredAt
 unanswered-past kit role r request i past =
     not-true-false _
@@ -54,7 +54,7 @@ module _ (kit : Kit) (r : Room) (b : Bounds kit r) where
   pub leader-small : kit .leader < 7
   leader-small = let f = b .good .f-high in omega (arith, b .good .leader-below)
 
-  at-laid : (request i : ℕ) → answeredAtOn (layTable kit) (kit .leader) request (layLedger (r .counter)) (layIssued (r .counter)) i ≡ answeredAt kit r request i
+  at-laid : (request i : ℕ) → answeredAtOn (layTable kit) (kit .leader) request (layLedger (r .counter)) (layIssued (r .counter)) i ≡ answeredAt kit r request (suc i)
   unfolding answeredAtOn updatedBy hasUpdated answeredAt actives layTable
   at-laid request i =
       rw (actives-laid (kit .table), up-laid (r .counter) (kit .leader) i leader-small (b .counter-max (kit .leader) up))
@@ -64,5 +64,5 @@ module _ (kit : Kit) (r : Room) (b : Bounds kit r) where
   unfolding answeredOn answered
   answered-laid request =
       ap (anyBelow placesMax) (fun-ext (at-laid request))
-      ∙ anyBelow-past placesMax (length (r .counter (kit .leader) up)) (answeredAt kit r request) (b .counter-max (kit .leader) up)
+      ∙ anyBelow-past placesMax (length (r .counter (kit .leader) up)) (λ i. answeredAt kit r request (suc i)) (b .counter-max (kit .leader) up)
       (unanswered-past kit (roles kit (b .good)) r request)

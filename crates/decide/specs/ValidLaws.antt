@@ -30,6 +30,7 @@ use Rattle.rules.specs.agreement.Invariant.{FilingBounds}
 use Rattle.room.specs.Bounds.{Bounds}
 use Rattle.room.specs.GoodLaws.{concerned-below}
 use Rattle.validity.specs.Validity.{found, contentOn, isCommittedAt, isCommittedOn, isCommonTo, isSettledAt, isSettledOn, isListed, isBorneOut, isFiledAt, isValidOn}
+use Rattle.rules.specs.laws.ReadingLaws.{entryAt-suc}
 
 -- ---- tests that agree where they are asked
 
@@ -75,23 +76,23 @@ module _ (kit : Kit) (r : Room) (b : Bounds kit r) where
   -- ---- one history
 
   module _ (list : List ℕ) where
-    committed-laid : (i : ℕ) → isCommittedOn (layLedger (r .counter)) (layIssued (r .counter)) (kit .leader) (switchLeader kit) (pad 64 list) i ≡ isCommitted kit r list i
+    committed-laid : (i : ℕ) → isCommittedOn (layLedger (r .counter)) (layIssued (r .counter)) (kit .leader) (switchLeader kit) (pad 64 list) i ≡ isCommitted kit r list (suc i)
     unfolding isCommittedOn isCommittedAt isCommitted
     committed-laid i =
-        rw (getD-pad 64 list i, content-laid (switchLeader kit) ag (suc i) switcher-seven (omega arith), content-laid (kit .leader) ag (suc i) leader-seven (omega arith))
+        rw (getD-pad 64 list i, entryAt-suc list i, content-laid (switchLeader kit) ag (suc i) switcher-seven (omega arith), content-laid (kit .leader) ag (suc i) leader-seven (omega arith))
 
-    settled-laid : (i : ℕ) → i < length list → isSettledOn (layLedger (r .counter)) (layIssued (r .counter)) (layTable kit) (kit .leader) (switchLeader kit) (pad 64 list) i ≡ isSettledBy kit r list i
+    settled-laid : (i : ℕ) → i < length list → isSettledOn (layLedger (r .counter)) (layIssued (r .counter)) (layTable kit) (kit .leader) (switchLeader kit) (pad 64 list) i ≡ isSettledBy kit r list (suc i)
     unfolding isSettledOn isSettledAt isSettledBy isCommonTo actives layTable
     settled-laid i h =
-        rw (getD-pad 64 list i, take-pad-le 64 (suc i) list h, content-laid (switchLeader kit) up (suc i) switcher-seven (omega arith), actives-laid (kit .table))
+        rw (getD-pad 64 list i, entryAt-suc list i, take-pad-le 64 (suc i) list h, content-laid (switchLeader kit) up (suc i) switcher-seven (omega arith), actives-laid (kit .table))
         (ap (λ (t : Bool). t && isContent (nth (r .counter (switchLeader kit) up) i) (Content.Update (getD list i 0) (markOf (take (suc i) list))))
         (actives-ext (kit .table) 0 _ _ (λ y below. rw (content-laid y ag (suc i) (omega (arith, table-seven)) (omega arith)))))
 
   -- the tests of a history's numbers and list, in the rules' order
   isBorne : Filing → Bool
   isBorne filing =
-      allBelow (filing .k) (isCommitted kit r (filing .list))
-      && (allBelow (filing .j) (isSettledBy kit r (filing .list))
+      allBelow (filing .k) (λ i. isCommitted kit r (filing .list) (suc i))
+      && (allBelow (filing .j) (λ i. isSettledBy kit r (filing .list) (suc i))
       && (allOf (filing .list) (λ request. holds request (r .submitted)) && distinct (filing .list)))
 
   borne-out-laid : (filing : Filing) → FilingBounds filing

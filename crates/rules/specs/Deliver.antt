@@ -2,7 +2,7 @@
 use mathlib.Core.Bool.{Bool, false, not, _&&_, _||_}
 use mathlib.Core.Option.{Option, none, some}
 use mathlib.Core.List.{List}
-use Prim.Native.Nat.{ℕ, zero, suc, _-_}
+use Prim.Native.Nat.{ℕ, zero, suc}
 use lib.ListN.{length, getD}
 use lib.Dec.{leb, ltb, eqb}
 use Rattle.terms.specs.Lists.{pick, holds, isSome, countBelow}
@@ -14,7 +14,7 @@ use Rattle.terms.specs.declared.Condition.the-variants.{Closed}
 use Rattle.terms.specs.declared.Answer.the-variants.{NotIssued, ReceiverFaulty, TooLate, TooEarly, NotNext, WrongRoles, Unexpected}
 use Rattle.rules.specs.Table.{ag, up, sw, isActive}
 use Rattle.rules.specs.Room.{Replica, Room, withReplica, withCondition, withMark, note, notePair, accept, issue}
-use Rattle.rules.specs.Reading.{isRunning, isClosed, isFaulty, contentAt, isContent, firstOf, secondOf, settledCount, heldList}
+use Rattle.rules.specs.Reading.{isRunning, isClosed, isFaulty, entryAt, contentAt, isContent, firstOf, secondOf, settledCount, heldList, agTotal}
 use Rattle.rules.specs.Outcome.{Outcome, refuse, taken}
 
 -- a request that is submitted and that the receiver has not noted yet
@@ -42,18 +42,18 @@ unfoldable pub afterPrepare : Kit → Room → ℕ → ℕ → ℕ → ℕ → R
 afterPrepare kit r sender value to request =
     let p = r .replica to in
     let noting = accept (note p request) sender ag value in
-    let own = length (r .counter to ag) in
+    let own = agTotal r to in
     settle (issue r to ag (Commit request value)) to noting (settledCount kit to p own) (settledCount kit to noting (suc own))
 
 -- from another active replica, value i: COMMIT with b = i of the receiver's noted request i, which must exist
 unfoldable pub expectsCommit : Replica → ℕ → Option Content → Bool
-expectsCommit p value content = leb value (length (p .noted)) && isContent content (Commit (getD (p .noted) (value - 1) 0) value)
+expectsCommit p value content = leb value (length (p .noted)) && isContent content (Commit (entryAt (p .noted) value) value)
 
 unfoldable pub afterCommit : Kit → Room → ℕ → ℕ → ℕ → Room
 afterCommit kit r sender value to =
     let p = r .replica to in
     let accepting = accept p sender ag value in
-    let own = length (r .counter to ag) in
+    let own = agTotal r to in
     settle r to accepting (settledCount kit to p own) (settledCount kit to accepting own)
 
 unfoldable pub onAg : Kit → Room → ℕ → ℕ → ℕ → Option Content → Outcome
@@ -66,7 +66,7 @@ onAg kit r sender value to content =
 
 -- where the receiver has noted that pair: UPDATE equal to it
 unfoldable pub expectsPair : Replica → ℕ → Option Content → Bool
-expectsPair p value content = isContent content (Update (getD (p .noted) (value - 1) 0) (getD (p .pairMarks) (value - 1) 0))
+expectsPair p value content = isContent content (Update (entryAt (p .noted) value) (entryAt (p .pairMarks) value))
 
 -- else: UPDATE of a submitted request not yet noted
 unfoldable pub expectsUpdate : Room → Replica → Option Content → Bool
@@ -91,11 +91,12 @@ onUp kit r sender value to content =
 
 -- ---- on sw
 
--- of how many replicas a SWITCH was accepted
+-- of how many replicas a SWITCH was accepted. All are other replicas: a certificate of the receiver's own is refused for its roles
 unfoldable pub switches : Kit → Replica → ℕ
 switches kit p = countBelow (length (kit .table)) (λ y. leb 1 (p .accepted y sw))
 
--- with f other replicas accepted the receiver closes: it has settled the whole list that it holds, its mark is that list's
+-- with f other replicas accepted, so that with itself it counts f+1, the receiver closes: it has settled the whole list that it holds, its
+-- mark is that list's
 unfoldable pub afterSwitch : Kit → Room → ℕ → Replica → Room
 afterSwitch kit r to p =
     pick (leb (kit .f) (switches kit p))

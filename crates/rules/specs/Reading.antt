@@ -2,13 +2,14 @@
 use mathlib.Core.Bool.{Bool, true, false, _&&_}
 use mathlib.Core.Option.{Option, none, some}
 use mathlib.Core.List.{List, []}
-use Prim.Native.Nat.{ℕ, zero, suc}
-use lib.ListN.{length, take}
+use Prim.Native.Nat.{ℕ, zero, suc, _-_}
+use lib.ListN.{length, take, getD}
 use lib.Dec.{eqb}
 use Rattle.terms.specs.Lists.{pick, nth, allOf, anyBelow, leastOver}
 use Rattle.terms.specs.Kit.{Kit}
+use Rattle.terms.specs.Numbers.{contentNumbers}
 use Rattle.terms.specs.declared.Content.{Content}
-use Rattle.terms.specs.declared.Content.the-variants.{Prepare, Commit, Update, History, Switch}
+use Rattle.terms.specs.declared.Content.the-variants.{Update}
 use Rattle.terms.specs.declared.Condition.{Condition}
 use Rattle.terms.specs.declared.Condition.the-variants.{Running, Halted, Closed, Faulty}
 use Rattle.rules.specs.Table.{ag, up, isActive, actives}
@@ -34,39 +35,22 @@ isFaulty Halted = false
 isFaulty Closed = false
 isFaulty Faulty = true
 
--- ---- contents
+-- ---- requests and contents, by value: values count from 1
+
+-- request i of a list
+abbrev pub entryAt : List ℕ → ℕ → ℕ
+entryAt list i = getD list (i - 1) 0
 
 -- the content at a value of a counter: value 0 is never issued
 abbrev pub contentAt : List Content → ℕ → Option Content
 contentAt issued zero = none
 contentAt issued (suc i) = nth issued i
 
-abbrev pub sameContent : Content → Content → Bool
-sameContent (Prepare a) (Prepare c) = eqb a c
-sameContent (Prepare a) (Commit c d) = false
-sameContent (Prepare a) (Update c d) = false
-sameContent (Prepare a) (History c) = false
-sameContent (Prepare a) (Switch c) = false
-sameContent (Commit a b) (Prepare c) = false
-sameContent (Commit a b) (Commit c d) = eqb a c && eqb b d
-sameContent (Commit a b) (Update c d) = false
-sameContent (Commit a b) (History c) = false
-sameContent (Commit a b) (Switch c) = false
-sameContent (Update a b) (Prepare c) = false
-sameContent (Update a b) (Commit c d) = false
-sameContent (Update a b) (Update c d) = eqb a c && eqb b d
-sameContent (Update a b) (History c) = false
-sameContent (Update a b) (Switch c) = false
-sameContent (History a) (Prepare c) = false
-sameContent (History a) (Commit c d) = false
-sameContent (History a) (Update c d) = false
-sameContent (History a) (History c) = eqb a c
-sameContent (History a) (Switch c) = false
-sameContent (Switch a) (Prepare c) = false
-sameContent (Switch a) (Commit c d) = false
-sameContent (Switch a) (Update c d) = false
-sameContent (Switch a) (History c) = false
-sameContent (Switch a) (Switch c) = eqb a c
+-- the same kind, a and b
+unfoldable pub sameContent : Content → Content → Bool
+sameContent c d =
+    let same : ℕ → Bool = λ i. eqb (getD (contentNumbers c) i 0) (getD (contentNumbers d) i 0) in
+    same 0 && (same 1 && same 2)
 
 -- whether this content was issued there
 abbrev pub isContent : Option Content → Content → Bool
@@ -76,28 +60,25 @@ isContent (some d) c = sameContent d c
 -- a and b of a content
 abbrev pub firstOf : Option Content → ℕ
 firstOf none = 0
-firstOf (some (Prepare a)) = a
-firstOf (some (Commit a b)) = a
-firstOf (some (Update a b)) = a
-firstOf (some (History a)) = a
-firstOf (some (Switch a)) = a
+firstOf (some c) = getD (contentNumbers c) 1 0
 
 abbrev pub secondOf : Option Content → ℕ
 secondOf none = 0
-secondOf (some (Prepare a)) = 0
-secondOf (some (Commit a b)) = b
-secondOf (some (Update a b)) = b
-secondOf (some (History a)) = 0
-secondOf (some (Switch a)) = 0
+secondOf (some c) = getD (contentNumbers c) 2 0
 
 -- ---- settled
+
+-- how many values a replica has issued on ag
+abbrev pub agTotal : Room → ℕ → ℕ
+agTotal r x = length (r .counter x ag)
 
 -- what replica x has of the active replica y: on ag, of itself, its own total, and of another the last accepted ag value, where x is
 -- active; the last accepted up value where x is passive
 abbrev pub valueSeen : Bool → ℕ → ℕ → (ℕ → ℕ → ℕ) → ℕ → ℕ
 valueSeen active own x accepted y = pick active (pick (eqb y x) own (accepted y ag)) (accepted y up)
 
--- the settled count of replica x with this record and this ag total: the least over all active replicas
+-- the settled count of replica x with this record and this ag total: the least over all active replicas. The least is taken from one of
+-- them on, which therefore changes nothing: x itself where x is active, the leader where x is passive
 unfoldable pub settledCount : Kit → ℕ → Replica → ℕ → ℕ
 settledCount kit x p own =
     leastOver (actives kit) (valueSeen (isActive kit x) own x (p .accepted)) (pick (isActive kit x) own (p .accepted (kit .leader) up))
@@ -119,16 +100,17 @@ unfoldable pub settled : Kit → Room → ℕ → List ℕ
 settled kit r x =
     pick (isFaulty (r .replica x .condition)) []
     (pick (isClosed (r .replica x .condition)) (heldList r (r .replica x .held))
-    (settledNoted kit x (r .replica x) (length (r .counter x ag))))
+    (settledNoted kit x (r .replica x) (agTotal r x)))
 
 -- ---- answered
 
--- every active replica's up value i+1 is the same UPDATE of the request, its mark included: the leader is one of them, so its mark is
--- the one that all have
+-- every active replica's up value i is the same UPDATE of the request, its mark included: the leader is one of them, so its mark is the
+-- one that all have
 unfoldable pub answeredAt : Kit → Room → ℕ → ℕ → Bool
 answeredAt kit r request i =
-    let mark = secondOf (nth (r .counter (kit .leader) up) i) in
-    allOf (actives kit) (λ y. isContent (nth (r .counter y up) i) (Update request mark))
+    let mark = secondOf (contentAt (r .counter (kit .leader) up) i) in
+    allOf (actives kit) (λ y. isContent (contentAt (r .counter y up) i) (Update request mark))
 
+-- for some value i that the leader has issued on up
 unfoldable pub answered : Kit → Room → ℕ → Bool
-answered kit r request = anyBelow (length (r .counter (kit .leader) up)) (answeredAt kit r request)
+answered kit r request = anyBelow (length (r .counter (kit .leader) up)) (λ i. answeredAt kit r request (suc i))

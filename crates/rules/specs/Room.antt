@@ -67,7 +67,7 @@ put1 g x v y = pick (eqb y x) v (g y)
 abbrev pub put2 {ℓ} : {A : Type ℓ} → (ℕ → ℕ → A) → ℕ → ℕ → A → ℕ → ℕ → A
 put2 g x m v y n = pick (eqb n m && eqb y x) v (g y n)
 
--- ---- one part of the room anew
+-- ---- one part of the room anew: each changes what its name says, and no other field
 
 unfoldable pub withClock : Room → ℕ → Room
 withClock r n =
@@ -150,7 +150,7 @@ remember r request =
       replica = r .replica;
     }
 
--- ---- one part of a replica's record anew
+-- ---- one part of a replica's record anew, in the same way
 
 unfoldable pub withCondition : Replica → Condition → Replica
 withCondition p c = record { condition = c; noted = p .noted; pairMarks = p .pairMarks; mark = p .mark; accepted = p .accepted; held = p .held }

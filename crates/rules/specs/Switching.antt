@@ -4,7 +4,7 @@ use mathlib.Core.Bool.{Bool, false, not, _&&_, _||_}
 use mathlib.Core.Option.{Option, none, some}
 use mathlib.Core.List.{List, [], _∷_, _++_}
 use Prim.Native.Nat.{ℕ, suc}
-use lib.ListN.{length, take, getD}
+use lib.ListN.{length, take}
 use lib.Dec.{eqb}
 use Rattle.terms.specs.Lists.{pick, nth, holds, distinct, allOf, allBelow, isSome}
 use Rattle.terms.specs.Mark.{markOf}
@@ -14,7 +14,7 @@ use Rattle.terms.specs.declared.Condition.the-variants.{Halted}
 use Rattle.terms.specs.declared.Answer.the-variants.{NotIssued, ReceiverFaulty, TooLate, TooEarly, WrongRoles, NotValid, CannotBuild}
 use Rattle.rules.specs.Table.{ag, up, sw, actives, switchLeader}
 use Rattle.rules.specs.Room.{Filing, Room, withReplica, withCondition, withHistory, hold, issue}
-use Rattle.rules.specs.Reading.{isRunning, isClosed, isFaulty, contentAt, isContent, firstOf, settledCount}
+use Rattle.rules.specs.Reading.{isRunning, isClosed, isFaulty, entryAt, contentAt, isContent, firstOf, settledCount, agTotal}
 use Rattle.rules.specs.Outcome.{Outcome, refuse, taken}
 
 -- ---- kind 5: a running correct replica halts
@@ -37,7 +37,7 @@ unfoldable pub built : Kit → Room → Filing
 built kit r =
     let s = switchLeader kit in
     let p = r .replica s in
-    let own = length (r .counter s ag) in
+    let own = agTotal r s in
     record { j = settledCount kit s p own; k = own; list = p .noted ++ missing (p .noted) (r .submitted) }
 
 -- it is filed, HISTORY issued on ag and up, held, SWITCH issued on sw
@@ -55,19 +55,21 @@ onBuild kit r =
 
 -- ---- kind 4: hand
 
--- up to k: the switch leader's ag value is COMMIT of that request and value, the leader's is PREPARE of it
+-- for i to k: the switch leader's ag value i is COMMIT of request i and i, the leader's is PREPARE of it
 unfoldable pub isCommitted : Kit → Room → List ℕ → ℕ → Bool
 isCommitted kit r list i =
-    isContent (nth (r .counter (switchLeader kit) ag) i) (Commit (getD list i 0) (suc i))
-    && isContent (nth (r .counter (kit .leader) ag) i) (Prepare (getD list i 0))
+    let request = entryAt list i in
+    isContent (contentAt (r .counter (switchLeader kit) ag) i) (Commit request i)
+    && isContent (contentAt (r .counter (kit .leader) ag) i) (Prepare request)
 
--- up to j: every other active replica's ag value is that COMMIT too, leader excepted, and the switch leader's up value is UPDATE of that
--- request with the mark of the requests up to it
+-- for i to j: every other active replica's ag value i is that COMMIT too, leader excepted, and the switch leader's up value i is UPDATE of
+-- request i with the mark of the first i
 unfoldable pub isSettledBy : Kit → Room → List ℕ → ℕ → Bool
 isSettledBy kit r list i =
+    let request = entryAt list i in
     allOf (actives kit)
-    (λ y. eqb y (kit .leader) || (eqb y (switchLeader kit) || isContent (nth (r .counter y ag) i) (Commit (getD list i 0) (suc i))))
-    && isContent (nth (r .counter (switchLeader kit) up) i) (Update (getD list i 0) (markOf (take (suc i) list)))
+    (λ y. eqb y (kit .leader) || (eqb y (switchLeader kit) || isContent (contentAt (r .counter y ag) i) (Commit request i)))
+    && isContent (contentAt (r .counter (switchLeader kit) up) i) (Update request (markOf (take i list)))
 
 -- history h = (j, k, list) at the switch leader's ag value p and up value q
 unfoldable pub isValid : Kit → Room → ℕ → ℕ → ℕ → Filing → Bool
@@ -76,8 +78,8 @@ isValid kit r p q h filing =
     && (isContent (contentAt (r .counter (switchLeader kit) up) q) (History h)
     && (eqb p (suc (filing .k))
     && (eqb q (suc (filing .j))
-    && (allBelow (filing .k) (isCommitted kit r (filing .list))
-    && (allBelow (filing .j) (isSettledBy kit r (filing .list))
+    && (allBelow (filing .k) (λ i. isCommitted kit r (filing .list) (suc i))
+    && (allBelow (filing .j) (λ i. isSettledBy kit r (filing .list) (suc i))
     && (allOf (filing .list) (λ request. holds request (r .submitted)) && distinct (filing .list)))))))
 
 abbrev pub isValidFiling : Kit → Room → ℕ → ℕ → ℕ → Option Filing → Bool

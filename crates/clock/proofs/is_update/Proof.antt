@@ -1,10 +1,12 @@
 -- `is_update`: only an UPDATE can be one, and then both its numbers are compared. Assumes nothing.
 use borrow.Author.Needs.{needs}
 use borrow.Author.Tests.{eq-eqb, ne-eqb}
+use Rattle.rules.specs.Reading.{sameContent}
 use Rattle.clock.proofs.is_update.Statement.{statement}
 use Rattle.clock.proofs.is_update.Tie as tie
 
 pub is-update-spec : {M : Type 1} → statement M
+unfolding sameContent
 is-update-spec =
     tie.close
     (tie.spec

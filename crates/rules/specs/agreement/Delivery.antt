@@ -22,7 +22,7 @@ use Rattle.rules.specs.Table.{ag, up, sw, isActive, isMarkedFaulty}
 use Rattle.rules.specs.laws.TableLaws.{Roles}
 use Rattle.rules.specs.Room.{Room, Replica, withReplica, issue, withCondition, withMark, note, notePair, accept}
 use Rattle.rules.specs.laws.RoomLaws.{accepted-rises, accepted-by-one}
-use Rattle.rules.specs.Reading.{isRunning, isClosed, isFaulty, contentAt, isContent, firstOf, secondOf, settledCount, settledNoted, heldList}
+use Rattle.rules.specs.Reading.{isRunning, isClosed, isFaulty, contentAt, isContent, firstOf, secondOf, settledCount, settledNoted, heldList, agTotal}
 use Rattle.rules.specs.laws.ReadingLaws.{running-open, running-correct, isContent-same, settledCount-rises, settledCount-by-one, settledNoted-rises}
 use Rattle.rules.specs.Outcome.{Outcome, refuse}
 use Rattle.rules.specs.laws.Growth.{Grows, still-submitted, grows-refl, grows-trans, grows-withReplica, grows-issue}
@@ -46,7 +46,7 @@ next-refuse kit r a false n o f = f refl
 module _ (kit : Kit) {r r₁ : Room} (x : ℕ) {p₀ : Replica} (p : Replica) {ags ups : List Content} (c d : ℕ) (a : Invariant kit r)
     (v : Moved r r₁ x p₀ ags ups) (ax : isActive kit x ≡ true) (free : p .held ≡ none) (u₀ : isRunning (r .replica x .condition) ≡ true)
     (u₁ : isRunning (p .condition) ≡ true) (ed : d ≡ settledCount kit x p (length ags)) (cm : Common kit r₁ p) (act₁ : Active kit r₁ x p ags ups c)
-    (sub : Sub (settledNoted kit x (r .replica x) (length (r .counter x ag))) (settledNoted kit x p (length ags))) where
+    (sub : Sub (settledNoted kit x (r .replica x) (agTotal r x)) (settledNoted kit x p (length ags))) where
   good₀ : isFaulty (r .replica x .condition) ≡ false
   good₀ = running-correct (r .replica x .condition) u₀
 
@@ -123,7 +123,7 @@ next-prepare kit r a v x q fx ax xl run ev ec es en =
     p₁ = accept (note p q) (kit .leader) ag v
 
     n : ℕ
-    n = length (r .counter x ag)
+    n = agTotal r x
 
     g : Grows r (issue r x ag (Commit q v))
     g = grows-issue r x ag (Commit q v)
@@ -160,7 +160,7 @@ next-commit kit r a s v x b fx ax sl run ev ec en =
     p₁ = accept p s ag v
 
     n : ℕ
-    n = length (r .counter x ag)
+    n = agTotal r x
 
     loc : Part kit r x p (r .counter x ag) (r .counter x up)
     loc = a .part x fx
@@ -223,7 +223,7 @@ next-ag kit r a s v x o eo fx ax sx run ev =
 next-noting : (kit : Kit) (r : Room) → Invariant kit r → (x : ℕ) (p₁ : Replica) → isActive kit x ≡ false → isRunning (r .replica x .condition) ≡ true
     → isRunning (p₁ .condition) ≡ true → length (r .replica x .noted) ≤ length (p₁ .noted)
     → (isMarkedFaulty kit x ≡ false → Common kit r p₁) → (isMarkedFaulty kit x ≡ false → Passive kit r p₁)
-    → Sub (settledNoted kit x (r .replica x) (length (r .counter x ag))) (settledNoted kit x p₁ (length (r .counter x ag)))
+    → Sub (settledNoted kit x (r .replica x) (agTotal r x)) (settledNoted kit x p₁ (agTotal r x))
     → Next kit r (afterUpdate kit r x p₁)
 unfolding afterUpdate withMark settledNoted settledCount
 next-noting kit r a x p₁ ax u₀ u₁ more cm pas sub =
@@ -289,7 +289,7 @@ next-up kit r a s v x o eo fx ax run ev =
     p = r .replica x
 
     n : ℕ
-    n = length (r .counter x ag)
+    n = agTotal r x
 
     loc : Part kit r x p (r .counter x ag) (r .counter x up)
     loc = a .part x fx

@@ -3,7 +3,7 @@
 use mathlib.Core.Path.{_≡_, refl, sym, ap, _∙_}
 use mathlib.Core.Bool.{true, false}
 use mathlib.Core.List.{List, [], _∷_, _++_}
-use Prim.Native.Nat.{ℕ, suc, _+_, _<_}
+use Prim.Native.Nat.{ℕ, suc, _<_}
 use native.Mathlib.Omega.{arith}
 use lib.ListN.{length}
 use borrow.Author.Tests.{leb-false}
@@ -19,7 +19,7 @@ use Rattle.terms.specs.declared.Event.the-variants.{Submit, Issue, Deliver, Han
 use Rattle.rules.specs.Table.{ag, up, isMarkedFaulty, switchLeader}
 use Rattle.rules.specs.laws.TableLaws.{Roles}
 use Rattle.rules.specs.Room.{Room, Replica, withReplica, withClock, withLate, issue, remember, withCondition, note}
-use Rattle.rules.specs.Reading.{isRunning, isClosed, isFaulty, settledCount, settledNoted}
+use Rattle.rules.specs.Reading.{isRunning, isClosed, isFaulty, settledCount, settledNoted, agTotal}
 use Rattle.rules.specs.laws.ReadingLaws.{running-open, running-correct, settledCount-waits, settledNoted-rises}
 use Rattle.rules.specs.laws.Growth.{grows-withReplica, tick-grows}
 use Rattle.rules.specs.agreement.Invariant.{FilingBounds, Part, Invariant, part-grows}
@@ -86,7 +86,7 @@ next-submit kit roles r a q =
         let loc = a .part l fl in
         let av = loc .active (roles .leader-active) in
         let free = loc .common .running-holds-none run in
-        let n = length (r .counter l ag) in
+        let n = agTotal r l in
         let es = settledCount-waits kit l (note p q) n (switchLeader kit) (roles .leader-active)
         (roles .active-listed (switchLeader kit) (roles .switch-active)) (roles .switch-not-leader)
         (omega (arith, seen-within av (switchLeader kit) (roles .switch-not-leader), av .ag-total free)) in
@@ -123,7 +123,7 @@ next-panic kit r a x =
     let g = grows-withReplica r x (withCondition p Halted) in
     next-move kit x a v (halt-correct p ∙ sym fx) (λ f. part-grows kit g (halt-part kit x p op (a .part x f)))
     (λ f. grows-open kit x v fx (halt-correct p) op (halt-open p)
-    (rw (halt-settled kit x p (length (r .counter x ag))) λ i q z. z))
+    (rw (halt-settled kit x p (agTotal r x)) λ i q z. z))
 
 next-file : (kit : Kit) (r : Room) → Invariant kit r → (j n : ℕ) (l : List ℕ)
     → FilingBounds (record { j = j; k = n; list = l }) → Next kit r (onFile r j n l .room)

@@ -15,7 +15,7 @@ use Rattle.terms.specs.declared.Content.{Content}
 use Rattle.rules.specs.Table.{ag, up, sw, isMarkedFaulty}
 use Rattle.rules.specs.Room.{Room, Replica, Filing, withReplica, issue, withHistory, remember}
 use Rattle.rules.specs.laws.RoomLaws.{replica-same, replica-other, counter-same, counter-other}
-use Rattle.rules.specs.Reading.{isClosed, isFaulty, settledNoted, settled, heldList}
+use Rattle.rules.specs.Reading.{isClosed, isFaulty, settledNoted, settled, heldList, agTotal}
 use Rattle.rules.specs.laws.ReadingLaws.{closed-correct}
 use Rattle.rules.specs.laws.Growth.{Grows, grows-refl, grows-trans, grows-withReplica, grows-issue, grows-withHistory, grows-remember}
 use Rattle.rules.specs.agreement.Invariant.{FilingBounds, Submissions, Backed, Common, Part, Invariant, part-grows}
@@ -184,7 +184,7 @@ next-move kit {r} {r₁} x {p} {ags} {ups} a v b l s =
 pub grows-open : (kit : Kit) {r r₁ : Room} (x : ℕ) {p : Replica} {ags ups : List Content} → Moved r r₁ x p ags ups
     → isFaulty (r .replica x .condition) ≡ false → isFaulty (p .condition) ≡ false → isClosed (r .replica x .condition) ≡ false
     → isClosed (p .condition) ≡ false
-    → Sub (settledNoted kit x (r .replica x) (length (r .counter x ag))) (settledNoted kit x p (length ags))
+    → Sub (settledNoted kit x (r .replica x) (agTotal r x)) (settledNoted kit x p (length ags))
     → Sub (settled kit r x) (settled kit r₁ x)
 grows-open kit {r} {r₁} x {p} {ags} v z w e f s =
     rw (settled-open kit r x z e, settled-open kit r₁ x (rw (v .record-now) w) (rw (v .record-now) f), v .record-now, v .ag-now) s

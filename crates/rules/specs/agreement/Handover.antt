@@ -22,7 +22,7 @@ use Rattle.rules.specs.Table.{ag, up, isMarkedFaulty, switchLeader}
 use Rattle.rules.specs.laws.TableLaws.{Roles}
 use Rattle.rules.specs.Room.{Room, Replica, Filing, withReplica, issue, withHistory, hold}
 use Rattle.rules.specs.Reading.{isRunning, isClosed, isFaulty, contentAt, isContent, firstOf, settledCount, settledNoted}
-use Rattle.rules.specs.laws.ReadingLaws.{isContent-same, settledCount-active, settledCount-own, settledCount-waits, settledNoted-rises}
+use Rattle.rules.specs.laws.ReadingLaws.{isContent-same, settledCount-active, settledCount-own, settledCount-waits, settledNoted-rises, entryAt-suc}
 use Rattle.rules.specs.laws.Growth.{Grows, still-submitted}
 use Rattle.rules.specs.agreement.Invariant.{FilingBounds, Backed, Active, Part, Invariant, common-grows, active-grows, passive-grows}
 use Rattle.rules.specs.agreement.Sound.{Sound, sound-backed}
@@ -43,12 +43,12 @@ unfolding isValid isCommitted
 valid-backed kit r p q h e long filed v =
     let t1 : isContent (contentAt (r .counter (switchLeader kit) ag) p) (History h) ≡ true = search (and-l, and-r) in
     let t2 : eqb p (suc (e .k)) ≡ true = search (and-l, and-r) in
-    let t3 : allBelow (e .k) (isCommitted kit r (e .list)) ≡ true = search (and-l, and-r) depth 8 in
+    let t3 : allBelow (e .k) (λ i. isCommitted kit r (e .list) (suc i)) ≡ true = search (and-l, and-r) depth 8 in
     let t4 : allOf (e .list) (λ a. holds a (r .submitted)) ≡ true = search (and-l, and-r) depth 9 in
     let t5 : distinct (e .list) ≡ true = search (and-l, and-r) depth 9 in
     let at : (i : ℕ) → i < e .k → (nth (r .counter (switchLeader kit) ag) i ≡ some (Commit (getD (e .list) i 0) (suc i))) ×
     (nth (r .counter (kit .leader) ag) i ≡ some (Prepare (getD (e .list) i 0))) =
-    λ i l. let b = allBelow-at (e .k) _ t3 i l in (
+    λ i l. let b = rw (entryAt-suc (e .list) i) at (allBelow-at (e .k) _ t3 i l) in (
       isContent-same (nth (r .counter (switchLeader kit) ag) i) (Commit (getD (e .list) i 0) (suc i)) (search (and-l, and-r)),
       isContent-same
           (nth (r .counter (kit .leader) ag) i) (Prepare (getD (e .list) i 0)) (search (and-l, and-r)),

@@ -9,7 +9,6 @@ use mathlib.Core.Option.{some}
 use mathlib.Core.List.{List}
 use Prim.Native.Nat.{ℕ, _<_}
 use native.Mathlib.Omega.{arith}
-use lib.ListN.{length}
 use lib.Dec.{ltb}
 use borrow.Author.Tests.{ltb-true, ltb-false}
 use Rattle.terms.specs.Lists.{nth, holds, Once, Sub, Agree}
@@ -19,7 +18,7 @@ use Rattle.terms.specs.declared.Content.the-variants.{Prepare}
 use Rattle.rules.specs.Table.{ag, up, isActive, isMarkedFaulty, switchLeader}
 use Rattle.rules.specs.laws.TableLaws.{Roles}
 use Rattle.rules.specs.Room.{Room}
-use Rattle.rules.specs.Reading.{isClosed, isFaulty, settledCount, settledNoted, settled, heldList}
+use Rattle.rules.specs.Reading.{isClosed, isFaulty, settledCount, settledNoted, settled, heldList, agTotal}
 use Rattle.rules.specs.laws.ReadingLaws.{settledCount-active, settledCount-passive, settledNoted-at, closed-correct}
 use Rattle.rules.specs.agreement.Invariant.{Backed, Common, Active, Invariant}
 
@@ -36,7 +35,7 @@ backed-one kit r h h₁ w v =
 
 -- what x has settled as long as it is not closed
 abbrev pub openList : Kit → Room → ℕ → List ℕ
-openList kit r x = settledNoted kit x (r .replica x) (length (r .counter x ag))
+openList kit r x = settledNoted kit x (r .replica x) (agTotal r x)
 
 -- the list of a closed replica is that of the history that it holds; that of another correct one is its open list
 pub settled-closed : (kit : Kit) (r : Room) (x : ℕ) → isClosed (r .replica x .condition) ≡ true → (c : Common kit r (r .replica x))
@@ -58,7 +57,7 @@ module _ (kit : Kit) (roles : Roles kit) (r : Room) (all : Invariant kit r) wher
       → Sub (openList kit r x) (openList kit r y)
   passive-in-active x y fx ax fy ay i q e =
       let c = settledNoted-at kit x (r .replica x) _ i q e in
-      let b = settledCount-passive kit x (r .replica x) (length (r .counter x ag)) y ax (roles .active-listed y ay) in
+      let b = settledCount-passive kit x (r .replica x) (agTotal r x) y ax (roles .active-listed y ay) in
       let t = all .part x fx .passive ax .updated y i (omega arith) in
       let s = all .part y fy .active ay .updates-settled i (t .0) (t .1) (t .3) in
       let z : t .0 ≡ q = cc in
@@ -78,10 +77,10 @@ module _ (kit : Kit) (roles : Roles kit) (r : Room) (all : Invariant kit r) wher
       → nth (openList kit r x) i ≡ some q → i < w .filing .k
   active-below x fx a w i q e = ⊎-elim own other (same? x (switchLeader kit))
     where
-      l : Active kit r x (r .replica x) (r .counter x ag) (r .counter x up) (settledCount kit x (r .replica x) (length (r .counter x ag)))
+      l : Active kit r x (r .replica x) (r .counter x ag) (r .counter x up) (settledCount kit x (r .replica x) (agTotal r x))
       l = all .part x fx .active a
 
-      c : (i < settledCount kit x (r .replica x) (length (r .counter x ag))) × (nth (r .replica x .noted) i ≡ some q)
+      c : (i < settledCount kit x (r .replica x) (agTotal r x)) × (nth (r .replica x .noted) i ≡ some q)
       c = settledNoted-at kit x (r .replica x) _ i q e
 
       own : x ≡ switchLeader kit → i < w .filing .k
@@ -94,7 +93,7 @@ module _ (kit : Kit) (roles : Roles kit) (r : Room) (all : Invariant kit r) wher
       other : x ≢ switchLeader kit → i < w .filing .k
       other d =
           split (ltb i (w .filing .k)) (λ b. ltb-true i (w .filing .k) b) λ b.
-          let n = settledCount-active kit x (r .replica x) (length (r .counter x ag)) (switchLeader kit) a
+          let n = settledCount-active kit x (r .replica x) (agTotal r x) (switchLeader kit) a
           (roles .active-listed (switchLeader kit) (roles .switch-active)) (λ z. d (sym z)) in
           let s = l .commits-seen (switchLeader kit) (roles .switch-not-leader) (w .filing .k) (omega (arith, ltb-false i (w .filing .k) b, c .0)) in
           no-way (cc (w .announced, s .2))

@@ -14,26 +14,26 @@ use Rattle.terms.specs.Kit.{Kit}
 use Rattle.terms.specs.declared.Condition.the-variants.{Halted}
 use Rattle.rules.specs.Table.{actives, switchLeader}
 use Rattle.rules.specs.Room.{Room, Filing}
-use Rattle.rules.specs.laws.ReadingLaws.{isContent-self}
+use Rattle.rules.specs.laws.ReadingLaws.{entryAt-suc, isContent-self}
 use Rattle.rules.specs.Outcome.{refuse, taken}
 use Rattle.rules.specs.Switching.{isCommitted, isSettledBy, isValid, afterHand, onHand}
 use Rattle.rules.specs.agreement.Sound.{Sound}
 
 module _ (kit : Kit) {r : Room} {number : ℕ} {filing : Filing} (v : Sound kit r number filing) where
-  committed-passes : (i : ℕ) → i < filing .k → isCommitted kit r (filing .list) i ≡ true
+  committed-passes : (i : ℕ) → i < filing .k → isCommitted kit r (filing .list) (suc i) ≡ true
   unfolding isCommitted
-  committed-passes i l = and-both (isContent-self (v .committed i l)) (isContent-self (v .prepared i l))
+  committed-passes i l = rw (entryAt-suc (filing .list) i) (and-both (isContent-self (v .committed i l)) (isContent-self (v .prepared i l)))
 
-  settled-passes : (i : ℕ) → i < filing .j → isSettledBy kit r (filing .list) i ≡ true
+  settled-passes : (i : ℕ) → i < filing .j → isSettledBy kit r (filing .list) (suc i) ≡ true
   unfolding isSettledBy
   settled-passes i l =
-      and-both
+      rw (entryAt-suc (filing .list) i) (and-both
       (allOf-from (actives kit) _ λ n y e.
       split (eqb y (kit .leader)) (λ t. rw t)
       (λ t. split (eqb y (switchLeader kit)) (λ u. rw (t, u))
       (λ u. rw (t, u) (isContent-self
       (v .committed-by-all i y l (holds-at (actives kit) n y e) (eqb-false y (kit .leader) t) (eqb-false y (switchLeader kit) u))))))
-      (isContent-self (v .updated i l))
+      (isContent-self (v .updated i l)))
 
   sound-passes : isValid kit r (suc (filing .k)) (suc (filing .j)) number filing ≡ true
   unfolding isValid

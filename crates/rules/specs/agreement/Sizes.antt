@@ -24,6 +24,7 @@ use Rattle.rules.specs.laws.Time.{gaps, step-clock, clock-is-sum, Timed,
 use Rattle.rules.specs.agreement.Invariant.{Part, Invariant}
 use Rattle.rules.specs.agreement.Events.{next-tick}
 use Rattle.rules.specs.agreement.Throughout.{at-moment}
+use Rattle.rules.specs.Reading.{agTotal}
 
 -- ---- what stands in every room that a good kit reaches
 
@@ -101,7 +102,7 @@ module _ (kit : Kit) (good : GoodKit kit) where
 -- of a correct replica
 pub record ReplicaBounds (kit : Kit) (r : Room) (x : ℕ) : Type 0 where
   pub noted-few : length (r .replica x .noted) ≤ requestsMax
-  pub ag-few : length (r .counter x ag) ≤ suc requestsMax
+  pub ag-few : agTotal r x ≤ suc requestsMax
   pub up-few : length (r .counter x up) ≤ suc requestsMax
   pub sw-few : length (r .counter x sw) ≤ 1
   pub paired : isActive kit x ≡ false → length (r .replica x .pairMarks) ≡ length (r .replica x .noted)

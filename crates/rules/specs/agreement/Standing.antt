@@ -17,7 +17,7 @@ use Rattle.terms.specs.declared.Content.the-variants.{Commit, Update}
 use Rattle.rules.specs.Table.{ag, up, isActive}
 use Rattle.rules.specs.laws.TableLaws.{Roles, roles}
 use Rattle.rules.specs.Room.{Room}
-use Rattle.rules.specs.Reading.{isClosed, settledCount, settledNoted, settled}
+use Rattle.rules.specs.Reading.{isClosed, settledCount, settledNoted, settled, agTotal}
 use Rattle.rules.specs.laws.ReadingLaws.{settledCount-passive}
 use Rattle.rules.specs.Play.{after}
 use Rattle.rules.specs.agreement.Invariant.{Active, Invariant}
@@ -48,7 +48,7 @@ module _ (kit : Kit) (roles : Roles kit) (r : Room) (a : Invariant kit r) (x : �
   noted = r .replica x .noted
 
   abbrev count : ℕ
-  count = settledCount kit x (r .replica x) (length (r .counter x ag))
+  count = settledCount kit x (r .replica x) (agTotal r x)
 
   count-noted : count ≤ length noted
   count-noted =
@@ -56,7 +56,7 @@ module _ (kit : Kit) (roles : Roles kit) (r : Room) (a : Invariant kit r) (x : �
       (λ t. let l = kit .leader in
       omega (
         arith,
-        settledCount-passive kit x (r .replica x) (length (r .counter x ag)) l t (roles .active-listed l (roles .leader-active)),
+        settledCount-passive kit x (r .replica x) (agTotal r x) l t (roles .active-listed l (roles .leader-active)),
         passive-within kit (r .replica x) l (a .part x fx .passive t),
       ))
 

@@ -20,7 +20,7 @@ use Rattle.rules.specs.Room.{
   accept,
   hold,
 }
-use Rattle.rules.specs.Reading.{settledCount, settledNoted, heldList, settled, answeredAt, answered}
+use Rattle.rules.specs.Reading.{sameContent, settledCount, settledNoted, heldList, settled, answeredAt, answered}
 use Rattle.rules.specs.Clock.{tick}
 use Rattle.rules.specs.Outcome.{refuse}
 use Rattle.rules.specs.Submit.{afterSubmit, onSubmit, onIssue, onFile}
@@ -49,7 +49,7 @@ use Rattle.rules.specs.Play.{onEvent, step, play, after, answer}
 unfoldable pub computing : Kit → ℕ → Room
 unfolding
     nextMark isActive isMarkedFaulty actives switchLeader freshReplica freshRoom withClock withLate withReplica issue withHistory remember withCondition withMark
-    note notePair accept hold settledCount settledNoted heldList settled answeredAt answered tick refuse afterSubmit onSubmit onIssue onFile settle
+    note notePair accept hold sameContent settledCount settledNoted heldList settled answeredAt answered tick refuse afterSubmit onSubmit onIssue onFile settle
     expectsPrepare afterPrepare expectsCommit afterCommit onAg expectsPair expectsUpdate afterUpdate onUp switches afterSwitch onSw isTooLate hasWrongRoles
     onDeliver onPanic built afterBuild onBuild isCommitted isSettledBy isValid afterHand onHand onEvent step play after answer
 computing kit n = after kit n

@@ -16,9 +16,9 @@ use Rattle.terms.specs.declared.Content.{Content}
 use Rattle.terms.specs.declared.Content.the-variants.{Update}
 use Rattle.rules.specs.Table.{up, actives}
 use Rattle.rules.specs.Room.{Room, withClock, withLate}
-use Rattle.rules.specs.Reading.{isContent, secondOf, answeredAt, answered}
+use Rattle.rules.specs.Reading.{secondOf, answeredAt, answered}
 use Rattle.rules.specs.laws.TableLaws.{Roles}
-use Rattle.rules.specs.laws.ReadingLaws.{isContent-same}
+use Rattle.rules.specs.laws.ReadingLaws.{isContent-same, isContent-self}
 use Rattle.rules.specs.Play.{after}
 use Rattle.rules.specs.laws.Growth.{Grows, after-grows}
 
@@ -46,9 +46,6 @@ all-holds l t e y h = let n = holds-nth l y h in allOf-at l t e (n .0) y (n .1)
 
 -- ---- the paper's sentence
 
-same-update : (c : Option Content) (request mark : ℕ) → c ≡ some (Update request mark) → isContent c (Update request mark) ≡ true
-same-update c request mark e = rw (e, eqb-same request, eqb-same mark)
-
 -- up value i+1 of every active replica is UPDATE of the request with this mark
 pub record AnswerOf (kit : Kit) (r : Room) (request : ℕ) : Type 0 where
   pub i : ℕ
@@ -58,7 +55,7 @@ pub record AnswerOf (kit : Kit) (r : Room) (request : ℕ) : Type 0 where
 pub answered-has : (kit : Kit) (r : Room) (request : ℕ) → answered kit r request ≡ true → AnswerOf kit r request
 unfolding answered answeredAt
 answered-has kit r request e =
-    let h = any-has (length (r .counter (kit .leader) up)) (answeredAt kit r request) e in
+    let h = any-has (length (r .counter (kit .leader) up)) (λ i. answeredAt kit r request (suc i)) e in
     record {
       i = h .0;
       mark = secondOf (nth (r .counter (kit .leader) up) (h .0));
@@ -70,8 +67,8 @@ pub has-answered : (kit : Kit) → Roles kit → (r : Room) (request : ℕ) → 
 unfolding answered answeredAt
 has-answered kit ro r request a =
     let own = a .same (kit .leader) (ro .active-listed (kit .leader) (ro .leader-active)) in
-    any-at (length (r .counter (kit .leader) up)) (answeredAt kit r request) (a .i) (nth-lt (r .counter (kit .leader) up) (a .i) own)
-    (all-from (actives kit) _ (λ y h. same-update (nth (r .counter y up) (a .i)) request _ (a .same y h ∙ ap (λ (c : Option Content). some (Update request (secondOf c))) (sym own))))
+    any-at (length (r .counter (kit .leader) up)) (λ i. answeredAt kit r request (suc i)) (a .i) (nth-lt (r .counter (kit .leader) up) (a .i) own)
+    (all-from (actives kit) _ (λ y h. isContent-self {o = nth (r .counter y up) (a .i)} (a .same y h ∙ ap (λ (c : Option Content). some (Update request (secondOf c))) (sym own))))
 
 -- ---- it goes by what is issued alone
 
@@ -88,7 +85,7 @@ answered-late kit r late request = refl
 -- ---- it stays
 
 answeredAt-stays
-    : (kit : Kit) (r r₁ : Room) → Grows r r₁ → (request i : ℕ) → i < length (r .counter (kit .leader) up) → answeredAt kit r request i ≡ true → answeredAt kit r₁ request i ≡ true
+    : (kit : Kit) (r r₁ : Room) → Grows r r₁ → (request i : ℕ) → i < length (r .counter (kit .leader) up) → answeredAt kit r request (suc i) ≡ true → answeredAt kit r₁ request (suc i) ≡ true
 unfolding answeredAt
 answeredAt-stays kit r r₁ g request i l e =
     let own = nth-in (r .counter (kit .leader) up) i l in
@@ -96,16 +93,16 @@ answeredAt-stays kit r r₁ g request i l e =
     let marks : secondOf (nth (r .counter (kit .leader) up) i) ≡ secondOf (nth (r₁ .counter (kit .leader) up) i) = ap secondOf (own .1 ∙ sym own₁) in
     all-from (actives kit) _
     (λ y h. let was = isContent-same (nth (r .counter y up) i) _ (all-holds (actives kit) _ e y h) in
-    same-update (nth (r₁ .counter y up) i) request _ (g .counters y up i _ was ∙ ap (λ (m : ℕ). some (Update request m)) marks))
+    isContent-self {o = nth (r₁ .counter y up) i} (g .counters y up i _ was ∙ ap (λ (m : ℕ). some (Update request m)) marks))
 
 pub answered-stays : (kit : Kit) (r r₁ : Room) → Grows r r₁ → (request : ℕ) → answered kit r request ≡ true → answered kit r₁ request ≡ true
 unfolding answered
 answered-stays kit r r₁ g request e =
     let up₀ = r .counter (kit .leader) up in
     let up₁ = r₁ .counter (kit .leader) up in
-    let h = any-has (length up₀) (answeredAt kit r request) e in
+    let h = any-has (length up₀) (λ i. answeredAt kit r request (suc i)) e in
     let own = nth-in up₀ (h .0) (h .1) in
-    any-at (length up₁) (answeredAt kit r₁ request) (h .0) (nth-lt up₁ (h .0) (g .counters (kit .leader) up (h .0) (own .0) (own .1)))
+    any-at (length up₁) (λ i. answeredAt kit r₁ request (suc i)) (h .0) (nth-lt up₁ (h .0) (g .counters (kit .leader) up (h .0) (own .0) (own .1)))
     (answeredAt-stays kit r r₁ g request (h .0) (h .1) (h .2))
 
 pub answered-after : (kit : Kit) (m n : ℕ) → m ≤ n → (request : ℕ) → answered kit (after kit m) request ≡ true → answered kit (after kit n) request ≡ true

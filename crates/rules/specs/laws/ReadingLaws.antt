@@ -1,23 +1,28 @@
 -- Laws of Reading: conditions, contents that pass a test, settled counts and lists. Assumes nothing.
-use mathlib.Core.Path.{_≡_, refl, sym, ap}
-use mathlib.Core.Bool.{Bool, true, false}
+use mathlib.Core.Path.{_≡_, refl, sym, ap, _∙_}
+use mathlib.Core.Bool.{Bool, true, false, _&&_}
 use mathlib.Core.Logic.{_≢_}
 use mathlib.Core.Option.{Option, none, some}
+use mathlib.Core.List.{List}
 use Prim.Native.Nat.{ℕ, suc, _≤_, _<_}
 use native.Mathlib.Omega.{arith}
+use native.Mathlib.Numerals.{unary-clauses}
+use lib.ListN.{getD}
 use lib.Dec.{eqb}
 use borrow.Author.Tests.{eqb-true, eqb-false, ne-eqb}
 use Rattle.terms.specs.Lists.{pick, nth, holds, Sub}
 use Rattle.terms.specs.ListLaws.{pick-elim, split, no-way, and-l, and-r, and-both, eqb-same, nth-take, take-nth, leastOver-le, leastOver-glb, leastOver-seed, leastOver-mono}
 use Rattle.terms.specs.ListLaws.{leastOver-step}
 use Rattle.terms.specs.Kit.{Kit}
+use Rattle.terms.specs.Numbers.{contentNumbers}
+use Rattle.terms.specs.NumbersLaws.{content-back}
 use Rattle.terms.specs.declared.Content.{Content}
-use Rattle.terms.specs.declared.Content.the-variants.{Prepare, Commit, Update, History, Switch}
+use Rattle.terms.specs.declared.ContentChoice.the-variants as ContentChoice
 use Rattle.terms.specs.declared.Condition.{Condition}
 use Rattle.terms.specs.declared.Condition.the-variants.{Running, Halted, Closed, Faulty}
 use Rattle.rules.specs.Table.{ag, up, isActive, actives}
 use Rattle.rules.specs.Room.{Replica, Room}
-use Rattle.rules.specs.Reading.{isRunning, isClosed, isFaulty, sameContent, isContent, valueSeen, settledCount, settledNoted, heldList}
+use Rattle.rules.specs.Reading.{isRunning, isClosed, isFaulty, entryAt, sameContent, isContent, valueSeen, settledCount, settledNoted, heldList}
 
 -- ---- conditions
 
@@ -39,35 +44,26 @@ closed-correct Halted e = no-way (cc)
 closed-correct Closed e = refl
 closed-correct Faulty e = no-way (cc)
 
--- ---- contents
+-- ---- requests and contents
 
--- a passed test of content
-pub sameContent-same : (a b : Content) → sameContent a b ≡ true → a ≡ b
-sameContent-same (Prepare a) (Prepare c) e = ap Prepare (eqb-true a c e)
-sameContent-same (Prepare a) (Commit c d) e = no-way (cc)
-sameContent-same (Prepare a) (Update c d) e = no-way (cc)
-sameContent-same (Prepare a) (History c) e = no-way (cc)
-sameContent-same (Prepare a) (Switch c) e = no-way (cc)
-sameContent-same (Commit a b) (Prepare c) e = no-way (cc)
-sameContent-same (Commit a b) (Commit c d) e = cc (eqb-true a c (and-l (eqb a c) (eqb b d) e), eqb-true b d (and-r (eqb a c) (eqb b d) e))
-sameContent-same (Commit a b) (Update c d) e = no-way (cc)
-sameContent-same (Commit a b) (History c) e = no-way (cc)
-sameContent-same (Commit a b) (Switch c) e = no-way (cc)
-sameContent-same (Update a b) (Prepare c) e = no-way (cc)
-sameContent-same (Update a b) (Commit c d) e = no-way (cc)
-sameContent-same (Update a b) (Update c d) e = cc (eqb-true a c (and-l (eqb a c) (eqb b d) e), eqb-true b d (and-r (eqb a c) (eqb b d) e))
-sameContent-same (Update a b) (History c) e = no-way (cc)
-sameContent-same (Update a b) (Switch c) e = no-way (cc)
-sameContent-same (History a) (Prepare c) e = no-way (cc)
-sameContent-same (History a) (Commit c d) e = no-way (cc)
-sameContent-same (History a) (Update c d) e = no-way (cc)
-sameContent-same (History a) (History c) e = ap History (eqb-true a c e)
-sameContent-same (History a) (Switch c) e = no-way (cc)
-sameContent-same (Switch a) (Prepare c) e = no-way (cc)
-sameContent-same (Switch a) (Commit c d) e = no-way (cc)
-sameContent-same (Switch a) (Update c d) e = no-way (cc)
-sameContent-same (Switch a) (History c) e = no-way (cc)
-sameContent-same (Switch a) (Switch c) e = ap Switch (eqb-true a c e)
+-- request i+1 stands at place i, counted from 0
+pub entryAt-suc : (list : List ℕ) (i : ℕ) → entryAt list (suc i) ≡ getD list i 0
+entryAt-suc list i = simp unary-clauses
+
+-- a passed test of content: the three numbers are a content's, and of no other
+pub sameContent-same : (c d : Content) → sameContent c d ≡ true → c ≡ d
+unfolding sameContent
+sameContent-same c d e =
+    let n = contentNumbers c in
+    let m = contentNumbers d in
+    let t₀ = eqb (getD n 0 0) (getD m 0 0) in
+    let t₁ = eqb (getD n 1 0) (getD m 1 0) in
+    let t₂ = eqb (getD n 2 0) (getD m 2 0) in
+    let e₀ = eqb-true (getD n 0 0) (getD m 0 0) (and-l t₀ (t₁ && t₂) e) in
+    let e₁ = eqb-true (getD n 1 0) (getD m 1 0) (and-l t₁ t₂ (and-r t₀ (t₁ && t₂) e)) in
+    let e₂ = eqb-true (getD n 2 0) (getD m 2 0) (and-r t₁ t₂ (and-r t₀ (t₁ && t₂) e)) in
+    let same : ContentChoice.Content c ≡ ContentChoice.Content d = sym (content-back c) ∙ rw (e₀, e₁, e₂) (content-back d) in
+    cc same
 
 pub isContent-same : (o : Option Content) (c : Content) → isContent o c ≡ true → o ≡ some c
 isContent-same none c e = no-way (cc)
@@ -75,11 +71,8 @@ isContent-same (some d) c e = ap some (sameContent-same d c e)
 
 -- and a content passes the test for itself
 sameContent-self : (c : Content) → sameContent c c ≡ true
-sameContent-self (Prepare a) = eqb-same a
-sameContent-self (Commit a b) = and-both (eqb-same a) (eqb-same b)
-sameContent-self (Update a b) = and-both (eqb-same a) (eqb-same b)
-sameContent-self (History a) = eqb-same a
-sameContent-self (Switch a) = eqb-same a
+unfolding sameContent
+sameContent-self c = let n = contentNumbers c in and-both (eqb-same (getD n 0 0)) (and-both (eqb-same (getD n 1 0)) (eqb-same (getD n 2 0)))
 
 pub isContent-self : {o : Option Content} {c : Content} → o ≡ some c → isContent o c ≡ true
 isContent-self {o} {c} e = rw e (sameContent-self c)

@@ -21,7 +21,7 @@ use Rattle.rules.specs.Table.{ag, up, sw, switchLeader}
 use Rattle.rules.specs.Room.{Room, Replica, put2, withClock, withLate, withReplica, issue, withHistory, remember, withCondition, withMark, note}
 use Rattle.rules.specs.Room.{notePair, accept, hold}
 use Rattle.rules.specs.laws.RoomLaws.{accepted-by-one}
-use Rattle.rules.specs.Reading.{isRunning, settledCount}
+use Rattle.rules.specs.Reading.{isRunning, settledCount, agTotal}
 use Rattle.rules.specs.laws.ReadingLaws.{settledCount-by-one}
 use Rattle.rules.specs.Clock.{tick}
 use Rattle.rules.specs.Outcome.{Outcome, refuse}
@@ -33,7 +33,7 @@ use Rattle.rules.specs.Play.{onEvent, step, play}
 -- accepted values rise by at most d and ag totals by at most t
 pub record Rises (d t : ℕ) (r r₁ : Room) : Type 0 where
   pub accepted : (x y n : ℕ) → r₁ .replica x .accepted y n ≤ d + r .replica x .accepted y n
-  pub total : (x : ℕ) → length (r₁ .counter x ag) ≤ t + length (r .counter x ag)
+  pub total : (x : ℕ) → agTotal r₁ x ≤ t + agTotal r x
 
 rises-more : {d t : ℕ} {r r₁ : Room} (d₁ t₁ : ℕ) → d ≤ d₁ → t ≤ t₁ → Rises d t r r₁ → Rises d₁ t₁ r r₁
 rises-more d₁ t₁ l m h = record { accepted = λ x y n. omega (arith, h .accepted x y n); total = λ x. omega (arith, h .total x) }
@@ -185,7 +185,7 @@ play-rises kit r size (e ∷ es) g =
 
 -- the settled count of x but for a closing
 abbrev pub countIn : Kit → Room → ℕ → ℕ
-countIn kit r x = settledCount kit x (r .replica x) (length (r .counter x ag))
+countIn kit r x = settledCount kit x (r .replica x) (agTotal r x)
 
 pub settled-by-one : (kit : Kit) (r : Room) (size : ℕ) (e : Entry) → GoodEntry size e → (x : ℕ)
     → countIn kit (step kit r e .room) x ≤ suc (countIn kit r x)

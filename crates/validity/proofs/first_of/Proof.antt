@@ -1,6 +1,5 @@
 -- `first_of` meets its contract. Assumes nothing.
 use borrow.Author.Needs.{needs}
-use Rattle.validity.specs.ValidityLaws.{first-number}
 use Rattle.validity.proofs.first_of.Statement.{statement}
 use Rattle.validity.proofs.first_of.Tie as tie
 
@@ -10,4 +9,4 @@ first-of-spec =
     (tie.spec
     (λ c κs. search needs)
     (λ c. search needs)
-    (λ c. rw (c .numbers-of-content .ensures) (first-number (c .before .args .content))))
+    (λ c. rw (c .numbers-of-content .ensures)))

@@ -1,6 +1,5 @@
 -- `second_of` meets its contract. Assumes nothing.
 use borrow.Author.Needs.{needs}
-use Rattle.validity.specs.ValidityLaws.{second-number}
 use Rattle.validity.proofs.second_of.Statement.{statement}
 use Rattle.validity.proofs.second_of.Tie as tie
 
@@ -10,4 +9,4 @@ second-of-spec =
     (tie.spec
     (λ c κs. search needs)
     (λ c. search needs)
-    (λ c. rw (c .numbers-of-content .ensures) (second-number (c .before .args .content))))
+    (λ c. rw (c .numbers-of-content .ensures)))
