@@ -1,7 +1,7 @@
 -- `is_faulty`: 2 and 3 mark a faulty replica. Assumes nothing.
 use borrow.Author.Tests.{ne-eqb}
-use Rattle.play_text.proofs.is_faulty.Statement.{statement}
-use Rattle.play_text.proofs.is_faulty.Tie as tie
+use Rattle.played.proofs.is_faulty.Statement.{statement}
+use Rattle.played.proofs.is_faulty.Tie as tie
 
 pub is-faulty-spec : {M : Type 1} → statement M
 is-faulty-spec =
