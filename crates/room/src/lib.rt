@@ -7,6 +7,8 @@ use terms::Content;
 use terms::HISTORIES;
 use terms::REQUESTS;
 
+pub mod settled;
+
 // The clock, the late tick where it was late, how many of the first submissions are known to be answered, and how many requests were
 // submitted, histories filed, and histories filed by events 8.
 pub struct Desk {
