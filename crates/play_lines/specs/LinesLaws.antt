@@ -1,14 +1,12 @@
 -- Laws of Lines: texts that are put line by line, and lists read in part. Assumes nothing.
 use mathlib.Core.Path.{_≡_, refl, sym, ap, _∙_}
-use mathlib.Core.Logic.{by-cases}
 use mathlib.Core.List.{List, [], _∷_, _++_, append-assoc}
-use Prim.Native.Nat.{ℕ, zero, suc, _+_, _-_, _≤_, _<_, min}
+use Prim.Native.Nat.{ℕ, zero, suc, _+_, _-_, _≤_, _<_}
 use native.Mathlib.Nat.{le-of-suc-le-suc, not-suc-le-zero}
 use native.Mathlib.Numerals.{add-one}
-use native.Mathlib.Decide.{decLt}
 use native.Mathlib.Omega.{arith}
-use lib.ListN.{length, getD, take, drop, drop-of-length-le}
-use lib.Seq.{drop-cons, take-all, take-length}
+use lib.ListN.{length, getD, drop, drop-of-length-le}
+use lib.Seq.{drop-cons}
 use Rattle.text.specs.Text.{Put, laid, Lays}
 use Rattle.text.specs.TextLaws.{laid-append, length-after}
 use Rattle.play_lines.specs.Lines.{spaced, requestsText, linesFrom}
@@ -83,13 +81,6 @@ pub requests-over : (l : List ℕ) (i : ℕ) → length l ≤ i → requestsText
 requests-over l i h = rw (drop-of-length-le l h)
 
 -- ---- lists
-
--- the first n of a list that has fewer are all of them
-pub take-least : (n : ℕ) (l : List ℕ) → take (min n (length l)) l ≡ take n l
-take-least n l =
-    by-cases (decLt n (length l))
-    (λ h. let e : min n (length l) ≡ n = omega arith in rw e)
-    (λ h. let e : min n (length l) ≡ length l = omega arith in rw (e, take-length l, take-all n l (omega arith)))
 
 -- what stands in a list does not hang on what would stand past its end
 pub getD-any {ℓ} : {A : Type ℓ} (l : List A) (i : ℕ) (d e : A) → i < length l → getD l i d ≡ getD l i e

@@ -1,19 +1,14 @@
 -- The lines of a play, from the parts that the player keeps, whatever is in them. Laws: PlayText, where the parts are a room's of the
 -- rules. Assumes nothing.
 use mathlib.Core.Bool.{false}
-use mathlib.Core.List.{List, [], _++_}
+use mathlib.Core.List.{List, _++_}
 use Prim.Native.Nat.{ℕ, suc, min}
-use lib.ListN.{getD, take}
-use lib.Dec.{ltb}
-use Rattle.terms.specs.Lists.{pick}
-use Rattle.terms.specs.declared.Condition.{Condition}
-use Rattle.terms.specs.declared.Condition.the-variants.{Running, Halted, Closed, Faulty}
-use Rattle.rules.specs.Table.{ag}
-use Rattle.ledger.specs.Ledger.{totalOf}
+use lib.ListN.{getD}
 use Rattle.replica.specs.declared.Replica.{Replica}
-use Rattle.replica.specs.Record.{freshRecord, settledIn}
+use Rattle.replica.specs.Record.{freshRecord}
 use Rattle.room.specs.declared.Desk.{Desk}
 use Rattle.room.specs.declared.Roles.{Roles}
+use Rattle.room.specs.Settled.{settledOf, settledShown, shownRecord}
 use Rattle.play_lines.specs.Lines.{eventLine, settledLine, lateText, linesFrom}
 
 -- ---- events
@@ -27,26 +22,10 @@ eventLines clocks answers n = linesFrom 0 (min n 4096) (eventAt clocks answers)
 
 -- ---- replicas
 
--- what a replica that has not closed has settled: the first of its noted requests
-unfoldable pub notedShown : ℕ → List ℕ → List ℕ → ℕ → Replica → List ℕ
-notedShown leader table issued x p =
-    take (min (settledIn (p .accepted) table leader x (totalOf issued x ag)) (p .count)) (p .noted)
-
--- what a closed one has settled: the whole list of the history that it holds
-unfoldable pub heldShown : List (List ℕ) → List (List ℕ) → Replica → List ℕ
-heldShown heads lists p =
-    pick (p .holding) (pick (ltb (p .held) 8) (take (getD (getD heads (p .held) []) 2 0) (getD lists (p .held) [])) []) []
-
-module _ (leader : ℕ) (table : List ℕ) (heads lists : List (List ℕ)) (issued : List ℕ) (x : ℕ) (p : Replica) where
-  -- by its condition
-  abbrev pub replicaIn : Condition → List ℕ
-  replicaIn Running = settledLine x Running (p .mark) (notedShown leader table issued x p)
-  replicaIn Halted = settledLine x Halted (p .mark) (notedShown leader table issued x p)
-  replicaIn Closed = settledLine x Closed (p .mark) (heldShown heads lists p)
-  replicaIn Faulty = settledLine x Faulty 0 []
-
-  unfoldable pub replicaLine : List ℕ
-  replicaLine = replicaIn (p .condition)
+-- number, condition, mark, settled list: of a faulty one mark 0 and nothing settled
+unfoldable pub replicaLine : ℕ → List ℕ → List (List ℕ) → List (List ℕ) → List ℕ → ℕ → Replica → List ℕ
+replicaLine leader table heads lists issued x p =
+    settledLine x (p .condition) (shownRecord p .mark) (settledShown (settledOf leader table heads lists issued x p))
 
 -- the line of replica x
 abbrev pub replicaAt : ℕ → List ℕ → List (List ℕ) → List (List ℕ) → List ℕ → List Replica → ℕ → List ℕ

@@ -1,14 +1,12 @@
 // The printed play: one line for each event, one for each replica, and the late tick; and the line of a refused kit. What no longer fits
 // into the lent buffer is left out, and the place that is given back is then the buffer's end: a text that ends before it is whole.
 ghost use mathlib.Core.Path.{_≡_};
-ghost use mathlib.Core.List.{[]};
 ghost use lib.ListN.{take};
 ghost use Prim.Native.Nat.{min};
 ghost use Rattle.terms.specs.Numbers.{conditionWord};
-ghost use Rattle.terms.specs.declared.Condition.the-variants.{Closed};
 ghost use Rattle.text.specs.Text.{Lays};
 ghost use Rattle.play_lines.specs.Lines.{spaced, requestsText, eventLine, replicaName, settledLine, lateText, kitLine};
-ghost use Rattle.play_lines.specs.PlayLines.{notedShown, heldShown, replicaLine, replicaLines, eventLines, playLines};
+ghost use Rattle.play_lines.specs.PlayLines.{replicaLine, replicaLines, eventLines, playLines};
 use ledger::Issued;
 use replica::Replica;
 use room::Desk;
@@ -27,13 +25,6 @@ pub fn long(n: usize) -> u64
     ensures { λ r. ⌜ r ≡ n ⌝ }
 {
     n as u64
-}
-
-// A number as a count.
-pub fn index(n: u32) -> usize
-    ensures { λ r. ⌜ r ≡ n ⌝ }
-{
-    n as usize
 }
 
 // The lesser of two counts.
@@ -166,58 +157,7 @@ fn put_first(
     put_settled(out, at, x, condition, mark, &list[..m])
 }
 
-// The line of a replica that has not closed: it has settled the first of its noted requests.
-fn put_noted(
-    out: &mut [u8],
-    at: usize,
-    x: usize,
-    condition: Condition,
-    p: Replica,
-    leader: usize,
-    table: &[u32; 7],
-    issued: &Issued,
-) -> usize
-    ensures { λ r. ⌜ Lays (now (out .entry)) at (settledLine x condition (p .mark) (notedShown leader (now (table .entry)) (now (issued .entry)) x p)) r (now (out .exit)) ⌝ }
-{
-    let accepted = p.accepted;
-    let noted = p.noted;
-    let own = ledger::total(issued, x, 0);
-    let c = replica::settled_count(&accepted, table, leader, x, own);
-    let n = lesser(c, p.count);
-    put_first(out, at, x, condition, p.mark, &noted, n)
-}
-
-// The line of a replica that has settled nothing.
-fn put_nothing(out: &mut [u8], at: usize, x: usize, condition: Condition, mark: u32) -> usize
-    ensures { λ r. ⌜ Lays (now (out .entry)) at (settledLine x condition mark []) r (now (out .exit)) ⌝ }
-{
-    let list = [0u32; 1];
-    put_first(out, at, x, condition, mark, &list, 0)
-}
-
-// The line of a closed replica: it has settled the whole list of the history that it holds.
-fn put_closed(
-    out: &mut [u8],
-    at: usize,
-    x: usize,
-    p: Replica,
-    heads: &[[usize; 3]; 8],
-    lists: &[[u32; 64]; 8],
-) -> usize
-    ensures { λ r. ⌜ Lays (now (out .entry)) at (settledLine x Closed (p .mark) (heldShown (now (heads .entry)) (now (lists .entry)) p)) r (now (out .exit)) ⌝ }
-{
-    let h = index(p.held);
-    if p.holding {
-        if h < 8 {
-            let n = heads[h][2];
-            return put_first(out, at, x, Condition::Closed, p.mark, &lists[h], n);
-        }
-        return put_nothing(out, at, x, Condition::Closed, p.mark);
-    }
-    put_nothing(out, at, x, Condition::Closed, p.mark)
-}
-
-// The line of a replica from its record. A faulty one has settled nothing, and no mark is shown.
+// The line of a replica from its record. A faulty one has settled nothing, and its mark is shown as 0.
 fn put_replica(
     out: &mut [u8],
     at: usize,
@@ -232,12 +172,10 @@ fn put_replica(
     ensures { λ r. ⌜ Lays (now (out .entry)) at (replicaLine leader (now (table .entry)) (now (heads .entry)) (now (lists .entry)) (now (issued .entry)) x p) r (now (out .exit)) ⌝ }
 {
     let condition = p.condition;
-    match condition {
-        Condition::Running => put_noted(out, at, x, Condition::Running, p, leader, table, issued),
-        Condition::Halted => put_noted(out, at, x, Condition::Halted, p, leader, table, issued),
-        Condition::Closed => put_closed(out, at, x, p, heads, lists),
-        Condition::Faulty => put_nothing(out, at, x, Condition::Faulty, 0),
-    }
+    let shown = room::settled::shown(p);
+    let settled = room::settled::settled_of(x, p, leader, table, heads, lists, issued);
+    let requests = settled.requests;
+    put_first(out, at, x, condition, shown.mark, &requests, settled.count)
 }
 
 // One line for each of the kit's replicas, of seven at the most.

@@ -30,8 +30,9 @@ use Rattle.player.specs.Shows.{Shows}
 use Rattle.player.specs.Plays.{player-shows}
 use Rattle.play_lines.specs.Lines.{kitLine}
 use Rattle.play_lines.specs.PlayText.{playText}
+use Rattle.played.specs.FreshLaws.{first-stage, is-fresh}
 use Rattle.play_text.specs.Printed.{printedText}
-use Rattle.play_text.specs.PlayTheorem.{first-stage, is-fresh, play-printed}
+use Rattle.play_text.specs.PlayTheorem.{play-printed}
 use Rattle.play_text.specs.Edits.{bytesOf, EditorMay, editor-may}
 use Rattle.play_text.specs.Exchanges.{OrderIsFree, order-is-free}
 use Rattle.play_text.specs.BelievedBytes.{BuiltIsBelieved, built-is-believed}

@@ -1,5 +1,4 @@
 pub mod Printed
-pub mod PrintedLaws
 pub mod PlayTheorem
 pub mod Edits
 pub mod Exchanges

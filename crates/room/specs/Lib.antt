@@ -3,7 +3,9 @@ pub mod Decide
 pub mod DecideLaws
 pub mod Layout
 pub mod LayoutLaws
+pub mod Settled
 pub mod Bounds
 pub mod BoundsLaws
 pub mod GoodLaws
+pub mod SettledLaws
 pub mod Reached

@@ -4,6 +4,10 @@ ghost use Rattle.room.specs.Desk.{freshDesk, countedOn};
 use terms::Answer;
 use terms::Condition;
 use terms::Content;
+use terms::HISTORIES;
+use terms::REQUESTS;
+
+pub mod settled;
 
 // The clock, the late tick where it was late, how many of the first submissions are known to be answered, and how many requests were
 // submitted, histories filed, and histories filed by events 8.
@@ -66,9 +70,9 @@ pub enum Decision {
 
 impl Desk {
     // Requests that can be submitted.
-    pub const REQUESTS_MAX: usize = 64;
+    pub const REQUESTS_MAX: usize = REQUESTS;
     // Histories that can be filed.
-    pub const HISTORIES_MAX: usize = 8;
+    pub const HISTORIES_MAX: usize = HISTORIES;
 
     // Before the first event.
     pub fn fresh() -> Desk

@@ -6,8 +6,6 @@ use Prim.Native.Nat.{ℕ, suc, _-_, min}
 use lib.ListN.{getD, take}
 use lib.Dec.{eqb, ltb}
 use Rattle.terms.specs.Lists.{pick}
-use Rattle.terms.specs.declared.Condition.{Condition}
-use Rattle.terms.specs.declared.Condition.the-variants.{Running, Halted, Closed, Faulty}
 use Rattle.terms.specs.declared.ContentChoice.{ContentChoice}
 use Rattle.terms.specs.declared.ContentChoice.the-variants as ContentChoice
 use Rattle.text.specs.Text.{decimal}
@@ -17,8 +15,8 @@ use Rattle.replica.specs.declared.Replica.{Replica}
 use Rattle.replica.specs.Record.{freshRecord}
 use Rattle.room.specs.declared.Desk.{Desk}
 use Rattle.room.specs.declared.Roles.{Roles}
+use Rattle.room.specs.Settled.{settledOf, settledShown, shownRecord}
 use Rattle.play_lines.specs.Lines.{linesFrom}
-use Rattle.play_lines.specs.PlayLines.{notedShown, heldShown}
 use Rattle.room_lines.specs.Pieces.{dash, eventText, submissionText, submittedText, historyText, contentText, counterText, keptText, recordText}
 
 -- ---- the event, submissions, histories
@@ -76,21 +74,15 @@ keptIn p =
     keptText (p .holding) (p .held) (take (p .count) (p .noted)) (take (p .pairs) (p .marks)) (λ c. getD (p .accepted) c 0)
 
 -- the line of replica x with this record, which has settled this list
-unfoldable pub recordLine : ℕ → Condition → Replica → List ℕ → List ℕ
-recordLine x condition p list =
-    recordText x condition (p .mark) (p .holding) (p .held) (take (p .count) (p .noted)) (take (p .pairs) (p .marks))
+unfoldable pub recordLine : ℕ → Replica → List ℕ → List ℕ
+recordLine x p list =
+    recordText x (p .condition) (p .mark) (p .holding) (p .held) (take (p .count) (p .noted)) (take (p .pairs) (p .marks))
     (λ c. getD (p .accepted) c 0) list
 
-module _ (leader : ℕ) (table : List ℕ) (heads lists : List (List ℕ)) (issued : List ℕ) (x : ℕ) (p : Replica) where
-  -- by its condition: of a faulty one a fresh record is shown
-  abbrev pub replicaIn : Condition → List ℕ
-  replicaIn Running = recordLine x Running p (notedShown leader table issued x p)
-  replicaIn Halted = recordLine x Halted p (notedShown leader table issued x p)
-  replicaIn Closed = recordLine x Closed p (heldShown heads lists p)
-  replicaIn Faulty = recordLine x Faulty (freshRecord true) []
-
-  unfoldable pub replicaLine : List ℕ
-  replicaLine = replicaIn (p .condition)
+-- what is shown of its record, and what it has settled
+unfoldable pub replicaLine : ℕ → List ℕ → List (List ℕ) → List (List ℕ) → List ℕ → ℕ → Replica → List ℕ
+replicaLine leader table heads lists issued x p =
+    recordLine x (shownRecord p) (settledShown (settledOf leader table heads lists issued x p))
 
 -- the line of replica x
 abbrev pub replicaAt : ℕ → List ℕ → List (List ℕ) → List (List ℕ) → List ℕ → List Replica → ℕ → List ℕ

@@ -1,8 +1,8 @@
 -- The lines of the parts that the player keeps are the rules' where the parts are a laid-out room, and the answers are the rules'.
 -- Assumes nothing.
 use mathlib.Core.Path.{_≡_, refl, ap}
-use mathlib.Core.Bool.{true, false}
-use mathlib.Core.List.{List, []}
+use mathlib.Core.Bool.{false}
+use mathlib.Core.List.{List}
 use Prim.Native.Nat.{ℕ, zero, suc, _-_, _/_, _%_, _≤_, _<_, min}
 use native.Mathlib.Omega.{arith}
 use lib.ListN.{length, getD}
@@ -12,27 +12,26 @@ use Rattle.terms.specs.ListLaws.{nth-lt, nth-getD}
 use Rattle.terms.specs.Kit.{Kit}
 use Rattle.terms.specs.Padding.{pad, getD-pad, take-pad}
 use Rattle.terms.specs.Tabulate.{grid, getD-tab}
-use Rattle.terms.specs.declared.Condition.{Condition}
-use Rattle.terms.specs.declared.Condition.the-variants.{Running, Halted, Closed, Faulty}
 use Rattle.rules.specs.Table.{ag, up, sw}
-use Rattle.rules.specs.Room.{Room, freshReplica}
+use Rattle.rules.specs.Room.{Room}
 use Rattle.rules.specs.Room as Rules
-use Rattle.rules.specs.Reading.{settledNoted, heldList, settled}
+use Rattle.rules.specs.Reading.{settled}
 use Rattle.rules.specs.Play.{after}
 use Rattle.ledger.specs.LedgerLayout.{layLedger, layIssued}
 use Rattle.ledger.specs.LedgerLaws.{total-laid, look-laid}
 use Rattle.replica.specs.RecordLayout.{numberOr0, layReplica}
-use Rattle.replica.specs.RecordLaws.{fresh-laid}
 use Rattle.room.specs.Layout.{Parts, layRoles, layTable, layHeads, layLists, layDesk, layReplicas, layRoom}
 use Rattle.room.specs.LayoutLaws.{head-laid, list-laid, replica-laid}
 use Rattle.room.specs.Bounds.{Bounds}
 use Rattle.room.specs.GoodLaws.{size-max}
+use Rattle.room.specs.Settled.{shownRecord}
+use Rattle.room.specs.SettledLaws.{settled-shown, shown-laid}
 use Rattle.play_lines.specs.Lines.{linesFrom}
 use Rattle.play_lines.specs.LinesLaws.{lines-ext}
-use Rattle.play_lines.specs.PlayTextLaws.{Says, noted-said, held-said}
+use Rattle.play_lines.specs.PlayTextLaws.{Says}
 use Rattle.room_lines.specs.Pieces.{submittedText, historyText, counterText, acceptedText, keptText, recordText}
 use Rattle.room_lines.specs.PieceLaws.{entries-ext, lines-each}
-use Rattle.room_lines.specs.RoomLines.{answerIn, submissionsIn, submittedLine, historyLines, contentsIn, counterLine, countersAt, counterLines, recordLine, replicaIn, replicaLine, replicaLines, roomLines}
+use Rattle.room_lines.specs.RoomLines.{answerIn, submissionsIn, submittedLine, historyLines, contentsIn, counterLine, countersAt, counterLines, recordLine, replicaLine, replicaLines, roomLines}
 use Rattle.room_lines.specs.RoomText.{answerSaid, submittedSaid, historiesSaid, counterSaid, countersSaid, recordShown, replicaSaid, roomText}
 
 -- ---- the answer
@@ -51,11 +50,18 @@ unfolding acceptedText grid
 accepted-said g =
     rw (entries-ext 21 0 _ (λ c. g (c / 3) (c % 3)) false (λ k h. getD-tab 21 (λ i. g (i / 3) (i % 3)) k 0 (omega (arith, h))))
 
-record-said : (x : ℕ) (p : Rules.Replica) (c : Condition) (list : List ℕ)
-    → recordLine x c (layReplica p) list
-    ≡ recordText x c (p .mark) (isSome (p .held)) (numberOr0 (p .held)) (p .noted) (p .pairMarks) (λ e. p .accepted (e / 3) (e % 3)) list
+record-said : (x : ℕ) (p : Rules.Replica) (list : List ℕ)
+    → recordLine x (layReplica p) list
+    ≡ recordText x (p .condition) (p .mark) (isSome (p .held)) (numberOr0 (p .held)) (p .noted) (p .pairMarks)
+    (λ e. p .accepted (e / 3) (e % 3)) list
 unfolding recordLine recordText keptText layReplica
-record-said x p c list = rw (take-pad 64 (p .noted), take-pad 64 (p .pairMarks), accepted-said (p .accepted))
+record-said x p list = rw (take-pad 64 (p .noted), take-pad 64 (p .pairMarks), accepted-said (p .accepted))
+
+-- ---- what is shown of it
+
+shown-said : (p : Rules.Replica) → shownRecord (layReplica p) ≡ layReplica (recordShown p)
+unfolding recordShown
+shown-said p = shown-laid p
 
 module _ (kit : Kit) (r : Room) (b : Bounds kit r) where
   -- ---- submissions, histories
@@ -103,20 +109,12 @@ module _ (kit : Kit) (r : Room) (b : Bounds kit r) where
 
   -- ---- replicas
 
-  line-said : (x : ℕ) → x < 7 → (c : Condition) → r .replica x .condition ≡ c
-      → replicaIn (kit .leader) (layTable kit) (layHeads (r .histories)) (layLists (r .histories)) (layIssued (r .counter)) x (layReplica (r .replica x)) c
-      ≡ replicaSaid kit r x
-  unfolding replicaSaid recordShown settled freshReplica
-  line-said x below Running e = rw (noted-said kit r b x below, record-said x (r .replica x) Running (settledNoted kit x (r .replica x) (length (r .counter x ag))), e)
-  line-said x below Halted e = rw (noted-said kit r b x below, record-said x (r .replica x) Halted (settledNoted kit x (r .replica x) (length (r .counter x ag))), e)
-  line-said x below Closed e = rw (held-said kit r b (r .replica x), record-said x (r .replica x) Closed (heldList r (r .replica x .held)), e)
-  line-said x below Faulty e = let f = fresh-laid true in rw (← f, record-said x (freshReplica true) Faulty [], e)
-
   replica-said : (x : ℕ) → x < 7
       → replicaLine (kit .leader) (layTable kit) (layHeads (r .histories)) (layLists (r .histories)) (layIssued (r .counter)) x (layReplica (r .replica x))
       ≡ replicaSaid kit r x
-  unfolding replicaLine layReplica
-  replica-said x below = line-said x below (r .replica x .condition) refl
+  unfolding replicaLine replicaSaid
+  replica-said x below =
+      rw (settled-shown kit r b x below, shown-said (r .replica x)) (record-said x (recordShown (r .replica x)) (settled kit r x))
 
   replicas-said : replicaLines (layReplicas (r .replica)) (layRoles kit) (layTable kit) (layHeads (r .histories)) (layLists (r .histories)) (layIssued (r .counter))
       ≡ linesFrom 0 (length (kit .table)) (replicaSaid kit r)

@@ -7,10 +7,7 @@ ghost use lib.ListN.{take, drop, getD};
 ghost use lib.Dec.{eqb};
 ghost use Prim.Native.Nat.{_+_, _<_};
 ghost use Rattle.terms.specs.Lists.{pick};
-ghost use Rattle.terms.specs.declared.Condition.the-variants.{Closed, Faulty};
 ghost use Rattle.text.specs.Text.{Lays};
-ghost use Rattle.replica.specs.Record.{freshRecord};
-ghost use Rattle.play_lines.specs.PlayLines.{notedShown, heldShown};
 ghost use Rattle.room_lines.specs.Pieces.{commas, listed, clockText, eventText, submissionText, historyText, partsText, contentText, heldText, entryText, entriesFrom, acceptedText, openingText};
 ghost use Rattle.room_lines.specs.RoomLines.{answerIn, submissionsIn, submittedLine, historyLines, choiceText, contentsIn, counterLine, countersAt, counterLines, keptIn, recordLine, replicaLine, replicaLines, roomLines};
 use ledger::Issued;
@@ -416,17 +413,10 @@ fn put_kept(out: &mut [u8], at: usize, p: Replica) -> usize
 }
 
 // The line of a replica with this record, which has settled the first n of a list, or all where there are fewer.
-fn put_record(
-    out: &mut [u8],
-    at: usize,
-    x: usize,
-    condition: Condition,
-    p: Replica,
-    list: &[u32],
-    n: usize,
-) -> usize
-    ensures { λ r. ⌜ Lays (now (out .entry)) at (recordLine x condition p (take n (now (list .entry)))) r (now (out .exit)) ⌝ }
+fn put_record(out: &mut [u8], at: usize, x: usize, p: Replica, list: &[u32], n: usize) -> usize
+    ensures { λ r. ⌜ Lays (now (out .entry)) at (recordLine x p (take n (now (list .entry)))) r (now (out .exit)) ⌝ }
 {
+    let condition = p.condition;
     let m = play_lines::lesser(n, list.len());
     let a = put_opening(out, at, x, condition, m, p.mark);
     let b = put_kept(out, a, p);
@@ -434,66 +424,7 @@ fn put_record(
     text::put_byte(out, c, 10)
 }
 
-// The line of a replica that has not closed: it has settled the first of its noted requests.
-fn put_noted(
-    out: &mut [u8],
-    at: usize,
-    x: usize,
-    condition: Condition,
-    p: Replica,
-    leader: usize,
-    table: &[u32; 7],
-    issued: &Issued,
-) -> usize
-    ensures { λ r. ⌜ Lays (now (out .entry)) at (recordLine x condition p (notedShown leader (now (table .entry)) (now (issued .entry)) x p)) r (now (out .exit)) ⌝ }
-{
-    let accepted = p.accepted;
-    let noted = p.noted;
-    let own = ledger::total(issued, x, 0);
-    let c = replica::settled_count(&accepted, table, leader, x, own);
-    let n = play_lines::lesser(c, p.count);
-    put_record(out, at, x, condition, p, &noted, n)
-}
-
-// The line of a replica that has settled nothing.
-fn put_nothing(out: &mut [u8], at: usize, x: usize, condition: Condition, p: Replica) -> usize
-    ensures { λ r. ⌜ Lays (now (out .entry)) at (recordLine x condition p []) r (now (out .exit)) ⌝ }
-{
-    let list = [0u32; 1];
-    put_record(out, at, x, condition, p, &list, 0)
-}
-
-// The line of a closed replica: it has settled the whole list of the history that it holds.
-fn put_closed(
-    out: &mut [u8],
-    at: usize,
-    x: usize,
-    p: Replica,
-    heads: &[[usize; 3]; 8],
-    lists: &[[u32; 64]; 8],
-) -> usize
-    ensures { λ r. ⌜ Lays (now (out .entry)) at (recordLine x Closed p (heldShown (now (heads .entry)) (now (lists .entry)) p)) r (now (out .exit)) ⌝ }
-{
-    let h = play_lines::index(p.held);
-    if p.holding {
-        if h < 8 {
-            let n = heads[h][2];
-            return put_record(out, at, x, Condition::Closed, p, &lists[h], n);
-        }
-        return put_nothing(out, at, x, Condition::Closed, p);
-    }
-    put_nothing(out, at, x, Condition::Closed, p)
-}
-
-// The line of a faulty replica: a fresh record is shown.
-fn put_faulty(out: &mut [u8], at: usize, x: usize) -> usize
-    ensures { λ r. ⌜ Lays (now (out .entry)) at (recordLine x Faulty (freshRecord true) []) r (now (out .exit)) ⌝ }
-{
-    let p = Replica::fresh(true);
-    put_nothing(out, at, x, Condition::Faulty, p)
-}
-
-// The line of a replica, by its condition.
+// The line of a replica: what is shown of its record, and what it has settled.
 fn put_replica(
     out: &mut [u8],
     at: usize,
@@ -507,13 +438,10 @@ fn put_replica(
 ) -> usize
     ensures { λ r. ⌜ Lays (now (out .entry)) at (replicaLine leader (now (table .entry)) (now (heads .entry)) (now (lists .entry)) (now (issued .entry)) x p) r (now (out .exit)) ⌝ }
 {
-    let condition = p.condition;
-    match condition {
-        Condition::Running => put_noted(out, at, x, Condition::Running, p, leader, table, issued),
-        Condition::Halted => put_noted(out, at, x, Condition::Halted, p, leader, table, issued),
-        Condition::Closed => put_closed(out, at, x, p, heads, lists),
-        Condition::Faulty => put_faulty(out, at, x),
-    }
+    let shown = room::settled::shown(p);
+    let settled = room::settled::settled_of(x, p, leader, table, heads, lists, issued);
+    let requests = settled.requests;
+    put_record(out, at, x, shown, &requests, settled.count)
 }
 
 // One line for each of the kit's replicas, of seven at the most.

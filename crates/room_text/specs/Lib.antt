@@ -1,5 +1,4 @@
 pub mod Asked
 pub mod AskedLaws
 pub mod RoomPrinted
-pub mod RoomPrintedLaws
 pub mod RoomTheorem

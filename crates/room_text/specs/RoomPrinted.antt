@@ -1,5 +1,5 @@
 -- The room after the first n events of a kit's bytes, as text, and what the program prints of its input and its argument. Laws:
--- RoomPrintedLaws, RoomTheorem. Assumes nothing.
+-- RoomTheorem. Assumes nothing.
 use mathlib.Core.Bool.{Bool}
 use mathlib.Core.List.{List, [], _∷_, _++_}
 use Prim.Native.Nat.{ℕ}
@@ -11,19 +11,10 @@ use Rattle.terms.specs.Numbers.{kitNumberOf}
 use Rattle.terms.specs.declared.KitAnswer.the-variants.{TooLong}
 use Rattle.kit.specs.declared.Settings.{Settings}
 use Rattle.kit.specs.Reader.{checkOf, settingsIn}
-use Rattle.player.specs.Turn.{Left}
 use Rattle.play_lines.specs.Lines.{spaced, kitLine}
-use Rattle.play_text.specs.Printed.{rolesIn, playedFrom}
-use Rattle.room_lines.specs.RoomLines.{roomLines}
+use Rattle.played.specs.declared.View.the-variants.{Room}
+use Rattle.played.specs.Views.{viewText}
 use Rattle.room_text.specs.Asked.{isNumber, numberAsked}
-
--- the lines of the room that the play of n events came to
-abbrev pub outcomeRoom : Settings → ℕ → Left → List ℕ
-outcomeRoom s n o =
-    roomLines (o .answers) n (o .parts .desk) (o .parts .replicas) (rolesIn s) (s .table) (o .parts .requests) (o .parts .ticks) (o .parts .heads) (o .parts .lists) (o .parts .ledger) (o .parts .issued)
-
-unfoldable pub roomAfter : List ℕ → Settings → ℕ → List ℕ
-roomAfter bytes s n = outcomeRoom s n (playedFrom bytes s n)
 
 -- "the kit has", so many, "events"
 unfoldable pub pastText : ℕ → List ℕ
@@ -31,7 +22,7 @@ pastText count = (0x74 ∷ 0x68 ∷ 0x65 ∷ 0x20 ∷ 0x6b ∷ 0x69 ∷ 0x74 ∷
 
 -- an accepted kit with these settings
 unfoldable pub momentText : List ℕ → Settings → ℕ → List ℕ
-momentText bytes s n = pick (ltb (s .count) n) (pastText (s .count)) (roomAfter bytes s n)
+momentText bytes s n = pick (ltb (s .count) n) (pastText (s .count)) (viewText Room bytes s n)
 
 -- any bytes: `kit` with its number for refused ones
 unfoldable pub printedRoom : List ℕ → ℕ → List ℕ

@@ -15,16 +15,15 @@ use Rattle.terms.specs.Numbers.{kitNumberOf}
 use Rattle.terms.specs.declared.KitAnswer.{KitAnswer}
 use Rattle.terms.specs.declared.KitAnswer.the-variants as KitAnswer
 use Rattle.number.specs.Number.{Bytes}
-use Rattle.room.specs.Reached.{reached}
 use Rattle.kit.specs.Reader.{checkOf, kitOf, settingsIn}
 use Rattle.kit.specs.Spelling.{Spells}
 use Rattle.kit.specs.Cursor.{opened, accepted-spells, spells-accepted}
 use Rattle.play_lines.specs.Lines.{kitLine}
-use Rattle.play_text.specs.PlayTheorem.{plays-first}
+use Rattle.played.specs.declared.View.the-variants.{Room}
+use Rattle.played.specs.ViewsLaws.{view-printed}
 use Rattle.room_lines.specs.RoomText.{roomText}
 use Rattle.room_text.specs.Asked.{askedMax}
 use Rattle.room_text.specs.RoomPrinted.{pastText, momentText, printedRoom, inputRoom, programRoom}
-use Rattle.room_text.specs.RoomPrintedLaws.{room-after-said}
 
 module _ (bytes : List ℕ) (kit : Kit) (spells : Spells bytes kit) where
   count-read : settingsIn bytes .count ≡ length (kit .events)
@@ -34,8 +33,7 @@ module _ (bytes : List ℕ) (kit : Kit) (spells : Spells bytes kit) where
   unfolding printedRoom momentText
   room-printed n fits =
       rw (spells-accepted bytes kit spells, le-ltb (settingsIn bytes .count) n (omega (arith, count-read, fits)))
-      (room-after-said kit n (omega (arith, fits, spells .good .event-count)) (reached kit (spells .good) n) bytes (settingsIn bytes)
-      (plays-first bytes kit spells n fits))
+      (view-printed Room bytes kit spells n fits)
 
   pub past-printed : (n : ℕ) → length (kit .events) < n → printedRoom bytes n ≡ pastText (length (kit .events))
   unfolding printedRoom momentText

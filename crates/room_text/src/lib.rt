@@ -5,61 +5,12 @@ ghost use Prim.Native.Nat.{_-_, _≤_, min};
 ghost use Rattle.text.specs.Text.{Lays};
 ghost use Rattle.play_lines.specs.Whole.{Counts};
 ghost use Rattle.room_text.specs.Asked.{isDigit, isNumber, withDigit, numberAsked, askedMax};
-ghost use Rattle.room_text.specs.RoomPrinted.{roomAfter, pastText, momentText, printedRoom, inputRoom, askedRoom, programRoom};
+ghost use Rattle.room_text.specs.RoomPrinted.{pastText, momentText, printedRoom, inputRoom, askedRoom, programRoom};
 use kit::Settings;
+use played::View;
 use terms::KitAnswer;
 
 // ---- any bytes, after so many events
-
-// The room of an accepted kit after its first n events.
-fn put_after(bytes: &[u8], settings: Settings, n: usize, out: &mut [u8]) -> usize
-    ensures { λ r. ⌜ Lays (now (out .entry)) 0 (roomAfter (now (bytes .entry)) settings n) r (now (out .exit)) ⌝ }
-{
-    let table = settings.table;
-    let roles = play_text::roles_of(settings);
-    let fresh = play_text::fresh_replicas(&table);
-    let mut answers = [0u32; 4096];
-    let mut clocks = [0u64; 4096];
-    let mut requests = [0u32; 64];
-    let mut ticks = [0u64; 64];
-    let mut heads = [[0usize; 3]; 8];
-    let mut lists = [[0u32; 64]; 8];
-    let mut ledger = [[[0u32; 3]; 96]; 21];
-    let mut issued = [0usize; 21];
-    let played = player::play(
-        bytes,
-        settings.first,
-        n,
-        roles,
-        &table,
-        fresh,
-        &mut answers,
-        &mut clocks,
-        &mut requests,
-        &mut ticks,
-        &mut heads,
-        &mut lists,
-        &mut ledger,
-        &mut issued,
-    );
-    let desk = played.desk;
-    let replicas = played.replicas;
-    room_lines::put_room(
-        out,
-        &answers,
-        n,
-        desk,
-        replicas,
-        roles,
-        &table,
-        &requests,
-        &ticks,
-        &heads,
-        &lists,
-        &ledger,
-        &issued,
-    )
-}
 
 // The line for one who asks for more events than there are.
 fn put_past(out: &mut [u8], count: usize) -> usize
@@ -78,7 +29,7 @@ fn put_moment(bytes: &[u8], settings: Settings, n: usize, out: &mut [u8]) -> usi
     if count < n {
         return put_past(out, count);
     }
-    put_after(bytes, settings, n, out)
+    played::put_played(bytes, settings, n, View::Room, out)
 }
 
 // The room of these bytes after n events: `kit` and its number where they are refused.

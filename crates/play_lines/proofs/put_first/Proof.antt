@@ -5,7 +5,7 @@ use mathlib.Core.Path.{ap}
 use lib.ListN.{length-take}
 use Rattle.text.specs.TextLaws.{lays-as}
 use Rattle.play_lines.specs.Lines.{settledLine}
-use Rattle.play_lines.specs.LinesLaws.{take-least}
+use Rattle.room.specs.SettledLaws.{take-least}
 use Rattle.play_lines.proofs.put_first.Statement.{statement}
 use Rattle.play_lines.proofs.put_first.Tie as tie
 

@@ -13,6 +13,11 @@ unfolding programText
 printed-input-spec =
     tie.close
     (tie.spec (λ c κs. search needs) (λ c κs. search needs) (λ c. search needs)
-    (λ c. (lays-as (c .before .before .put-kit .ensures) (rw (c .before .before .before .before .number-of-kit .ensures, lt-ltb _ _ (c .before .before .before .before .before .if1 .taken))), ends-within (c .before .before .put-kit .ensures) (omega arith)))
+    (λ c. let put = c .before .before in
+    let said = put .before .before in (
+      lays-as (put .put-kit .ensures) (rw (said .number-of-kit .ensures, lt-ltb _ _ (said .before .if1 .taken))),
+      ends-within (put .put-kit .ensures) (omega arith),
+    ))
     (λ c κs. search needs) (λ c. search needs)
-    (λ c. (lays-as (c .before .before .printed-play .ensures .0) (rw (le-ltb _ _ (c .before .before .before .before .if1 .left))), c .before .before .printed-play .ensures .1)))
+    (λ c. let put = c .before .before in
+    (lays-as (put .printed-play .ensures .0) (rw (le-ltb _ _ (put .before .before .if1 .left))), put .printed-play .ensures .1)))

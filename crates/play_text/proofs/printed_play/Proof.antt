@@ -12,7 +12,18 @@ pub printed-play-spec : {M : Type 1} → statement M
 unfolding printedText
 printed-play-spec =
     tie.close
-    (tie.spec (λ c κs. search needs) (λ c κs. search needs) (λ c κs. search needs) (λ c. search needs)
-    (λ c. (lays-as (c .before .before .put-played .ensures) (rw (← c .before .before .before .before .before .before .check .ensures, ← c .before .before .before .before .before .number-of-kit .ensures, eq-eqb _ _ (c .before .before .before .before .if1 .taken))), ends-within (c .before .before .put-played .ensures) (omega arith)))
+    (tie.spec (λ c κs. search needs) (λ c κs. search needs) (λ c κs. search needs) (λ c κs. search needs) (λ c. search needs)
+    (λ c. let put = c .before .before in
+    let opened = put .before .before in
+    let said = opened .before .before in (
+      lays-as (put .put-played .ensures)
+          (rw (← said .before .check .ensures, ← said .number-of-kit .ensures, eq-eqb _ _ (opened .before .if1 .taken), opened .«open» .ensures)),
+      ends-within (put .put-played .ensures) (omega arith),
+    ))
     (λ c κs. search needs) (λ c. search needs)
-    (λ c. (lays-as (c .before .before .put-kit .ensures) (rw (← c .before .before .before .before .before .before .check .ensures, ← c .before .before .before .before .before .number-of-kit .ensures, ne-eqb _ _ (c .before .before .before .before .if1 .left))), ends-within (c .before .before .put-kit .ensures) (omega arith))))
+    (λ c. let put = c .before .before in
+    let tested = put .before .before in
+    let said = tested .before in (
+      lays-as (put .put-kit .ensures) (rw (← said .before .check .ensures, ← said .number-of-kit .ensures, ne-eqb _ _ (tested .if1 .left))),
+      ends-within (put .put-kit .ensures) (omega arith),
+    )))

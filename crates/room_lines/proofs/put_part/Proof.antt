@@ -4,7 +4,7 @@ use mathlib.Core.Path.{ap}
 use native.Mathlib.Omega.{arith}
 use lib.ListN.{length-take}
 use Rattle.text.specs.TextLaws.{then-lays, lays-as}
-use Rattle.play_lines.specs.LinesLaws.{take-least}
+use Rattle.room.specs.SettledLaws.{take-least}
 use Rattle.room_lines.specs.Pieces.{listed}
 use Rattle.room_lines.proofs.put_part.Statement.{statement}
 use Rattle.room_lines.proofs.put_part.Tie as tie

@@ -13,4 +13,4 @@ put-moment-spec =
     (tie.spec (λ c κs. search needs) (λ c. search needs)
     (λ c. lays-as (c .before .before .put-past .ensures) (rw (lt-ltb _ _ (c .before .before .before .before .if1 .taken))))
     (λ c κs. search needs) (λ c. search needs)
-    (λ c. lays-as (c .before .before .put-after .ensures) (rw (le-ltb _ _ (c .before .before .before .before .if1 .left)))))
+    (λ c. lays-as (c .before .before .put-played .ensures) (rw (le-ltb _ _ (c .before .before .before .before .if1 .left)))))

@@ -1,0 +1,4 @@
+pub mod Fresh
+pub mod FreshLaws
+pub mod Views
+pub mod ViewsLaws
