@@ -16,8 +16,11 @@ use Rattle.replica.specs.declared.Replica.{Replica}
 use Rattle.replica.specs.Record.{noteOn, notePairOn, acceptOn, markOn, haltOn, holdOn, closeOn, settledIn, switchesIn, markIn}
 use Rattle.room.specs.declared.Desk.{Desk}
 use Rattle.room.specs.declared.Roles.{Roles}
-use Rattle.room.specs.declared.Decision.{Decision}
-use Rattle.room.specs.declared.Decision.the-variants.{Refuse, Submit, Issue, Prepare, Commit, KnownPair, NewPair, Switch, Hand, Panic, Idle, Build, File}
+use Rattle.terms.specs.declared.Act.{Act}
+use Rattle.terms.specs.declared.Act.the-variants as Act
+use Rattle.terms.specs.declared.Decision.{Decision}
+use Rattle.terms.specs.declared.Decision.the-variants as Decision
+use Rattle.terms.specs.declared.Decision.the-variants.{Refuse, Submit, Issue, Idle, Build, File}
 
 -- the record and the counters after it
 pub record Applied : Type 0 where
@@ -85,18 +88,22 @@ handOn p history me b = applied (holdOn p history) (issuing b me sw (Content.Swi
 unfoldable pub buildOn : Replica → ℕ → ℕ → Book → Applied
 buildOn p h me b = pick (leb 8 h) (applied p b) (handOn p h me (issuing (issuing b me ag (Content.History h)) me up (Content.History h)))
 
+-- what replica `me` does at what has reached it
+unfoldable pub actOn : Replica → Act → ℕ → Roles → List ℕ → List (List ℕ) → List (List ℕ) → Book → Applied
+actOn p (Act.Prepare sender value request) me roles table heads lists b = prepareOn p sender value request me (roles .leader) table b
+actOn p (Act.Commit sender value) me roles table heads lists b = commitOn p sender value me (roles .leader) table b
+actOn p (Act.KnownPair sender value) me roles table heads lists b = applied (pairOn p sender value me (roles .leader) table) b
+actOn p (Act.NewPair sender value request mark) me roles table heads lists b =
+    applied (pairOn (notePairOn p request mark) sender value me (roles .leader) table) b
+actOn p (Act.Switch sender value) me roles table heads lists b = applied (switchOn p sender value (roles .f) (roles .size) heads lists) b
+actOn p (Act.Hand history) me roles table heads lists b = handOn p history me b
+actOn p Act.Panic me roles table heads lists b = applied (haltOn p) b
+
 unfoldable pub applyOn : Replica → Decision → Desk → ℕ → Roles → List ℕ → List (List ℕ) → List (List ℕ) → Book → Applied
 applyOn p (Submit request) desk me roles table heads lists b = leadOn p request me b
 applyOn p (Issue replica name content) desk me roles table heads lists b = applied p (issuing b replica name content)
-applyOn p (Prepare sender value request) desk me roles table heads lists b = prepareOn p sender value request me (roles .leader) table b
-applyOn p (Commit sender value) desk me roles table heads lists b = commitOn p sender value me (roles .leader) table b
-applyOn p (KnownPair sender value) desk me roles table heads lists b = applied (pairOn p sender value me (roles .leader) table) b
-applyOn p (NewPair sender value request mark) desk me roles table heads lists b =
-    applied (pairOn (notePairOn p request mark) sender value me (roles .leader) table) b
-applyOn p (Switch sender value) desk me roles table heads lists b = applied (switchOn p sender value (roles .f) (roles .size) heads lists) b
-applyOn p (Hand history) desk me roles table heads lists b = handOn p history me b
+applyOn p (Decision.Act act) desk me roles table heads lists b = actOn p act me roles table heads lists b
 applyOn p (Build j k) desk me roles table heads lists b = buildOn p (desk .histories) me b
-applyOn p Panic desk me roles table heads lists b = applied (haltOn p) b
 applyOn p (Refuse answer) desk me roles table heads lists b = applied p b
 applyOn p Idle desk me roles table heads lists b = applied p b
 applyOn p (File j k) desk me roles table heads lists b = applied p b
@@ -105,14 +112,8 @@ applyOn p (File j k) desk me roles table heads lists b = applied p b
 unfoldable pub movesOn : Decision → Bool
 movesOn (Submit request) = true
 movesOn (Issue replica name content) = true
-movesOn (Prepare sender value request) = true
-movesOn (Commit sender value) = true
-movesOn (KnownPair sender value) = true
-movesOn (NewPair sender value request mark) = true
-movesOn (Switch sender value) = true
-movesOn (Hand history) = true
+movesOn (Decision.Act act) = true
 movesOn (Build j k) = true
-movesOn Panic = true
 movesOn (Refuse answer) = false
 movesOn Idle = false
 movesOn (File j k) = false

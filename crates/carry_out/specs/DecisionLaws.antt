@@ -3,13 +3,13 @@
 use mathlib.Core.Path.{_≡_, refl, ap, _∙_}
 use mathlib.Core.Bool.{true, false}
 use mathlib.Core.List.{List, [], _∷_, _++_}
-use Prim.Native.Nat.{ℕ, suc, _+_, _≤_, _<_}
+use Prim.Native.Nat.{ℕ, suc, _≤_, _<_}
 use native.Mathlib.Omega.{arith}
 use native.Mathlib.Numerals.{add-one}
 use lib.ListN.{length, getD, set}
 use lib.Dec.{leb, ltb}
 use borrow.Author.Tests.{lt-ltb, lt-leb}
-use Rattle.terms.specs.Lists.{pick}
+use Rattle.terms.specs.Lists.{pick, holds}
 use Rattle.terms.specs.ListLaws.{split, no-way, length-snoc, eqb-same}
 use Rattle.terms.specs.Padding.{pad, set-pad}
 use Rattle.terms.specs.Mark.{nextMark, markOf}
@@ -22,31 +22,34 @@ use Rattle.terms.specs.declared.Answer.{Answer}
 use Rattle.rules.specs.Table.{ag, up, sw}
 use Rattle.rules.specs.Room.{Room, Filing, put1, withReplica, withHistory, issue, remember, withCondition, withMark, note, notePair, accept, hold}
 use Rattle.rules.specs.Room as Rules
-use Rattle.rules.specs.Reading.{isRunning, isFaulty, settledCount, heldList}
-use Rattle.rules.specs.Submit.{afterSubmit}
-use Rattle.rules.specs.Deliver.{isNew, settle, afterPrepare, afterCommit, afterUpdate, afterSwitch, switches, markOfPair}
-use Rattle.rules.specs.Switching.{missing, afterHand}
+use Rattle.rules.specs.Reading.{isRunning, isFaulty, settledCount, heldList, agTotal}
+use Rattle.rules.specs.Submit.{afterSubmit, afterFile}
+use Rattle.rules.specs.Deliver.{settle, afterPrepare, afterCommit, afterUpdate, afterSwitch, switches, markOfPair}
+use Rattle.rules.specs.Switching.{missing, afterPanic, builtList, afterBuild, afterHand}
 use Rattle.ledger.specs.LedgerLaws.{total-laid, issue-laid}
 use Rattle.replica.specs.RecordLayout.{layReplica}
 use Rattle.replica.specs.RecordLaws.{note-laid, note-pair-laid, accept-laid, halt-laid, hold-laid}
-use Rattle.room.specs.declared.Decision.{Decision}
-use Rattle.room.specs.declared.Decision.the-variants.{Refuse, Submit, Issue, Prepare, Commit, KnownPair, NewPair, Switch, Hand, Panic, Idle, Build, File}
+use Rattle.terms.specs.declared.Act.{Act}
+use Rattle.terms.specs.declared.Act.the-variants as Act
+use Rattle.terms.specs.declared.Decision.{Decision}
+use Rattle.terms.specs.declared.Decision.the-variants as Decision
+use Rattle.terms.specs.declared.Decision.the-variants.{Refuse, Submit, Issue, Idle, Build, File}
 use Rattle.room.specs.Desk.{countedOn}
-use Rattle.room.specs.Decide.{carryOut, buildWith}
+use Rattle.rules.specs.Decide.{acted, carryOut}
 use Rattle.room.specs.Layout.{Parts, layRoom, layDesk, layRoles, layTable, layHeads, layLists}
 use Rattle.room.specs.LayoutLaws.{store-head, store-list, store-replica, keep-replica}
 use Rattle.room.specs.Bounds.{Bounds}
 use Rattle.room.specs.BoundsLaws.{noting-fits, noted-submissions, built-fits}
 use Rattle.carry_out.specs.Enter.{row, builtRow, submissions, filings, entered, storeRequest, fileOn, enterOn}
-use Rattle.carry_out.specs.Apply.{applied, settleOn, leadOn, prepareOn, commitOn, handOn, buildOn, applyOn}
+use Rattle.carry_out.specs.Apply.{applied, settleOn, leadOn, prepareOn, commitOn, handOn, buildOn, actOn, applyOn}
 use Rattle.carry_out.specs.Done.{entering, acting, doneOn}
 use Rattle.carry_out.specs.ApplyLaws.{Counters, layBook, issuedMore, built-laid, count-laid, pair-laid, switch-laid, settle-laid}
 
 -- ---- what replica `me` does
 
 -- the room with these counters and this record
-abbrev acted : Room → Counters → ℕ → Rules.Replica → Room
-acted r g me p =
+abbrev withActs : Room → Counters → ℕ → Rules.Replica → Room
+withActs r g me p =
     record {
       clock = r .clock;
       late = r .late;
@@ -59,7 +62,7 @@ acted r g me p =
     }
 
 acted-laid : (r : Room) (known : ℕ) (g : Counters) (me : ℕ) (p : Rules.Replica)
-    → acting (layRoom r known) me (applied (layReplica p) (layBook g)) ≡ layRoom (acted r g me p) known
+    → acting (layRoom r known) me (applied (layReplica p) (layBook g)) ≡ layRoom (withActs r g me p) known
 unfolding layRoom layDesk
 acted-laid r known g me p = rw (store-replica (r .replica) me p)
 
@@ -147,22 +150,22 @@ module _ (kit : Kit) (r : Room) (known : ℕ) (b : Bounds kit r) (me : ℕ) (bel
 
   -- ---- on ag
 
-  pub done-commit : (sender value : ℕ) (list : List ℕ) → sender < 7 → isFaulty (p .condition) ≡ false → Done (Commit sender value) list
-  unfolding doneOn enterOn applyOn countedOn carryOut layRoom layRoles afterCommit commitOn accept
+  pub done-commit : (sender value : ℕ) (list : List ℕ) → sender < 7 → isFaulty (p .condition) ≡ false → Done (Decision.Act (Act.Commit sender value)) list
+  unfolding doneOn enterOn applyOn actOn countedOn carryOut acted layRoom layRoles afterCommit commitOn accept
   done-commit sender value list sb correct =
       let q = accept p sender ag value in
-      let own = length (r .counter me ag) in
+      let own = agTotal r me in
       let settled = count-laid kit table-fits leader-below in
       rw (total-laid (r .counter) me ag below (omega arith), accept-laid p sender ag value sb (omega arith), settled p me own, settled q me own)
       (settled-as r known me (settledCount kit me p own) (settledCount kit me q own) q below (b .replicas me .noted-max) (own-room up correct))
 
-  pub done-prepare : (sender value request : ℕ) (list : List ℕ) → sender < 7 → isFaulty (p .condition) ≡ false → isNew r p request ≡ true
-      → Done (Prepare sender value request) list
-  unfolding doneOn enterOn applyOn countedOn carryOut layRoom layDesk layRoles afterPrepare prepareOn issue note accept
-  done-prepare sender value request list sb correct new =
-      let fits : length (p .noted) < 64 = noting-fits b me request new in
+  pub done-prepare : (sender value request : ℕ) (list : List ℕ) → sender < 7 → isFaulty (p .condition) ≡ false → holds request (r .submitted) ≡ true → holds request (p .noted) ≡ false
+      → Done (Decision.Act (Act.Prepare sender value request)) list
+  unfolding doneOn enterOn applyOn actOn countedOn carryOut acted layRoom layDesk layRoles afterPrepare prepareOn issue note accept
+  done-prepare sender value request list sb correct is new =
+      let fits : length (p .noted) < 64 = noting-fits b me request is new in
       let q = accept (note p request) sender ag value in
-      let own = length (r .counter me ag) in
+      let own = agTotal r me in
       let content = Content.Commit request value in
       let r₁ = issue r me ag content in
       let settled = count-laid kit table-fits leader-below in
@@ -173,17 +176,17 @@ module _ (kit : Kit) (r : Room) (known : ℕ) (b : Bounds kit r) (me : ℕ) (bel
 
   -- ---- on up
 
-  pub done-known-pair : (sender value : ℕ) (list : List ℕ) → sender < 7 → Done (KnownPair sender value) list
-  unfolding doneOn enterOn applyOn countedOn carryOut layRoom layRoles afterUpdate accept withReplica
+  pub done-known-pair : (sender value : ℕ) (list : List ℕ) → sender < 7 → Done (Decision.Act (Act.KnownPair sender value)) list
+  unfolding doneOn enterOn applyOn actOn countedOn carryOut acted layRoom layRoles afterUpdate accept withReplica
   done-known-pair sender value list sb =
       let q = accept p sender up value in
       rw (pair-laid kit table-fits leader-below p sender value me sb pairs-max)
       (acted-laid r known (r .counter) me (withMark q (markOfPair (p .pairMarks) (settledCount kit me q 0))))
 
-  pub done-new-pair : (sender value request mark : ℕ) (list : List ℕ) → sender < 7 → isNew r p request ≡ true → Done (NewPair sender value request mark) list
-  unfolding doneOn enterOn applyOn countedOn carryOut layRoom layRoles afterUpdate accept notePair withReplica
-  done-new-pair sender value request mark list sb new =
-      let fits : length (p .noted) < 64 = noting-fits b me request new in
+  pub done-new-pair : (sender value request mark : ℕ) (list : List ℕ) → sender < 7 → holds request (r .submitted) ≡ true → holds request (p .noted) ≡ false → Done (Decision.Act (Act.NewPair sender value request mark)) list
+  unfolding doneOn enterOn applyOn actOn countedOn carryOut acted layRoom layRoles afterUpdate accept notePair withReplica
+  done-new-pair sender value request mark list sb is new =
+      let fits : length (p .noted) < 64 = noting-fits b me request is new in
       let q = accept (notePair p request mark) sender up value in
       let pair-fits : length (p .pairMarks) < 64 = omega (arith, b .replicas me .pairs-noted) in
       rw (note-pair-laid p request mark fits pair-fits, pair-laid kit table-fits leader-below (notePair p request mark) sender value me sb (omega (arith, length-snoc (p .pairMarks) mark)))
@@ -191,8 +194,8 @@ module _ (kit : Kit) (r : Room) (known : ℕ) (b : Bounds kit r) (me : ℕ) (bel
 
   -- ---- on sw
 
-  pub done-switch : (sender value : ℕ) (list : List ℕ) → sender < 7 → Done (Switch sender value) list
-  unfolding doneOn enterOn applyOn countedOn carryOut layRoom layRoles afterSwitch accept withReplica
+  pub done-switch : (sender value : ℕ) (list : List ℕ) → sender < 7 → Done (Decision.Act (Act.Switch sender value)) list
+  unfolding doneOn enterOn applyOn actOn countedOn carryOut acted layRoom layRoles afterSwitch accept withReplica
   done-switch sender value list sb =
       let q = accept p sender sw value in
       rw (switch-laid kit table-fits leader-below p sender value r sb histories-max)
@@ -200,15 +203,15 @@ module _ (kit : Kit) (r : Room) (known : ℕ) (b : Bounds kit r) (me : ℕ) (bel
       (λ e. rw e (acted-laid r known (r .counter) me (withMark (withCondition q Closed) (markOf (heldList r (p .held))))))
       (λ e. rw e (acted-laid r known (r .counter) me q)))
 
-  pub done-hand : (history : ℕ) (list : List ℕ) → isFaulty (p .condition) ≡ false → Done (Hand history) list
-  unfolding doneOn enterOn applyOn countedOn carryOut layRoom handOn afterHand issue withReplica
+  pub done-hand : (history : ℕ) (list : List ℕ) → isFaulty (p .condition) ≡ false → Done (Decision.Act (Act.Hand history)) list
+  unfolding doneOn enterOn applyOn actOn countedOn carryOut acted layRoom handOn afterHand issue withReplica
   done-hand history list correct =
       let content = Content.Switch history in
       rw (hold-laid p history, issue-laid (r .counter) me sw below (omega arith) content (own-room sw correct))
       (acted-laid r known (issuedMore (r .counter) me sw content) me (hold p history))
 
-  pub done-panic : (list : List ℕ) → isRunning (p .condition) ≡ true → Done Panic list
-  unfolding doneOn enterOn applyOn countedOn carryOut layRoom withReplica
+  pub done-panic : (list : List ℕ) → isRunning (p .condition) ≡ true → Done (Decision.Act Act.Panic) list
+  unfolding doneOn enterOn applyOn actOn countedOn carryOut acted afterPanic layRoom withReplica
   done-panic list running = rw (halt-laid p running) (acted-laid r known (r .counter) me (withCondition p Halted))
 
   -- ---- what is entered
@@ -253,7 +256,7 @@ module _ (kit : Kit) (r : Room) (known : ℕ) (b : Bounds kit r) (me : ℕ) (bel
   filed-as decision h n room counted = rw (counted, lt-leb 8 (length (r .histories)) room, store-head (r .histories) h, store-list (r .histories) h)
 
   pub done-file : (j k : ℕ) (list : List ℕ) → length (r .histories) < 8 → r .filed < 8 → Done (File j k) list
-  unfolding doneOn enterOn applyOn carryOut layRoom withHistory layDesk countedOn
+  unfolding doneOn enterOn applyOn carryOut afterFile layRoom withHistory layDesk countedOn
   done-file j k list room filed =
       let h : Filing = record { j = j; k = k; list = list } in
       let n = length (r .histories) in
@@ -288,7 +291,7 @@ module _ (kit : Kit) (r : Room) (known : ℕ) (b : Bounds kit r) (me : ℕ) (bel
       (rw (issue-laid g₂ me sw below (omega arith) (Content.Switch h) (own-room sw correct))))
 
   pub done-build : (j k : ℕ) (list : List ℕ) → isFaulty (p .condition) ≡ false → length (r .histories) < 8 → Done (Build j k) list
-  unfolding doneOn enterOn applyOn carryOut layRoom withHistory layDesk countedOn buildWith withReplica issue
+  unfolding doneOn enterOn applyOn carryOut layRoom withHistory layDesk countedOn afterBuild builtList withReplica issue
   done-build j k list correct room =
       let h = filing j k in
       let n = length (r .histories) in

@@ -6,7 +6,7 @@ use lib.ListN.{set}
 use Rattle.ledger.specs.Ledger.{book}
 use Rattle.replica.specs.declared.Replica.{Replica}
 use Rattle.room.specs.declared.Roles.{Roles}
-use Rattle.room.specs.declared.Decision.{Decision}
+use Rattle.terms.specs.declared.Decision.{Decision}
 use Rattle.room.specs.Desk.{countedOn}
 use Rattle.room.specs.Layout.{Parts}
 use Rattle.carry_out.specs.Enter.{Entered, submissions, filings, enterOn}

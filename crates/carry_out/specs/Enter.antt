@@ -6,8 +6,9 @@ use lib.Dec.{leb}
 use Rattle.terms.specs.Lists.{pick, holds}
 use Rattle.rules.specs.Switching.{missing}
 use Rattle.room.specs.declared.Desk.{Desk}
-use Rattle.room.specs.declared.Decision.{Decision}
-use Rattle.room.specs.declared.Decision.the-variants.{Refuse, Submit, Issue, Prepare, Commit, KnownPair, NewPair, Switch, Hand, Panic, Idle, Build, File}
+use Rattle.terms.specs.declared.Decision.{Decision}
+use Rattle.terms.specs.declared.Decision.the-variants as Decision
+use Rattle.terms.specs.declared.Decision.the-variants.{Refuse, Submit, Issue, Idle, Build, File}
 
 -- ---- submissions
 
@@ -74,11 +75,5 @@ enterOn (Build j k) desk noted count list n s f =
     entered s (fileOn (desk .histories) j k (b .count) (b .list) (f .heads) (f .lists))
 enterOn (Refuse answer) desk noted count list n s f = entered s f
 enterOn (Issue replica name content) desk noted count list n s f = entered s f
-enterOn (Prepare sender value request) desk noted count list n s f = entered s f
-enterOn (Commit sender value) desk noted count list n s f = entered s f
-enterOn (KnownPair sender value) desk noted count list n s f = entered s f
-enterOn (NewPair sender value request mark) desk noted count list n s f = entered s f
-enterOn (Switch sender value) desk noted count list n s f = entered s f
-enterOn (Hand history) desk noted count list n s f = entered s f
-enterOn Panic desk noted count list n s f = entered s f
+enterOn (Decision.Act act) desk noted count list n s f = entered s f
 enterOn Idle desk noted count list n s f = entered s f

@@ -8,8 +8,9 @@ use Rattle.ledger.specs.Ledger.{Book}
 use Rattle.replica.specs.declared.Replica.{Replica}
 use Rattle.room.specs.declared.Desk.{Desk}
 use Rattle.room.specs.declared.Roles.{Roles}
-use Rattle.room.specs.declared.Decision.{Decision}
-use Rattle.room.specs.declared.Decision.the-variants.{Refuse, Submit, Issue, Prepare, Commit, KnownPair, NewPair, Switch, Hand, Panic, Idle, Build, File}
+use Rattle.terms.specs.declared.Decision.{Decision}
+use Rattle.terms.specs.declared.Decision.the-variants as Decision
+use Rattle.terms.specs.declared.Decision.the-variants.{Refuse, Submit, Issue, Idle, Build, File}
 use Rattle.carry_out.specs.Apply.{applied, applyOn, movesOn}
 
 module _ (p : Replica) (desk : Desk) (me : ℕ) (roles : Roles) (table : List ℕ) (heads lists : List (List ℕ)) (b : Book) where
@@ -17,14 +18,8 @@ module _ (p : Replica) (desk : Desk) (me : ℕ) (roles : Roles) (table : List �
   unfolding movesOn applyOn
   still (Submit request) e = no-way (cc)
   still (Issue replica name content) e = no-way (cc)
-  still (Prepare sender value request) e = no-way (cc)
-  still (Commit sender value) e = no-way (cc)
-  still (KnownPair sender value) e = no-way (cc)
-  still (NewPair sender value request mark) e = no-way (cc)
-  still (Switch sender value) e = no-way (cc)
-  still (Hand history) e = no-way (cc)
+  still (Decision.Act act) e = no-way (cc)
   still (Build j k) e = no-way (cc)
-  still Panic e = no-way (cc)
   still (Refuse answer) e = refl
   still Idle e = refl
   still (File j k) e = refl

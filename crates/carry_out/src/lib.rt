@@ -5,16 +5,17 @@ ghost use Rattle.terms.specs.Mark.{markOf};
 ghost use Rattle.rules.specs.Switching.{missing};
 ghost use Rattle.ledger.specs.Ledger.{book, issueOn};
 ghost use Rattle.carry_out.specs.Enter.{submissions, storeRequest, filings, fileOn, row, storeAll, addMissing, entered, enterOn};
-ghost use Rattle.carry_out.specs.Apply.{applied, requestAt, settleOn, leadOn, prepareOn, commitOn, pairOn, heldMark, switchOn, handOn, buildOn, applyOn, movesOn};
+ghost use Rattle.carry_out.specs.Apply.{applied, requestAt, settleOn, leadOn, prepareOn, commitOn, pairOn, heldMark, switchOn, handOn, buildOn, actOn, applyOn, movesOn};
 use ledger::Issued;
 use ledger::Ledger;
 use replica::Replica;
-use room::Decision;
 use room::Desk;
 use room::Roles;
 use terms::AG;
+use terms::Act;
 use terms::Condition;
 use terms::Content;
+use terms::Decision;
 use terms::HISTORIES;
 use terms::Heads;
 use terms::Lists;
@@ -122,13 +123,7 @@ pub fn enter(
         }
         Decision::Refuse(_) => {}
         Decision::Issue(_, _, _) => {}
-        Decision::Prepare(_, _, _) => {}
-        Decision::Commit(_, _) => {}
-        Decision::KnownPair(_, _) => {}
-        Decision::NewPair(_, _, _, _) => {}
-        Decision::Switch(_, _) => {}
-        Decision::Hand(_) => {}
-        Decision::Panic => {}
+        Decision::Act(_) => {}
         Decision::Idle => {}
     }
 }
@@ -347,14 +342,42 @@ pub fn moves(decision: Decision) -> bool
         Decision::File(_, _) => false,
         Decision::Submit(_) => true,
         Decision::Issue(_, _, _) => true,
-        Decision::Prepare(_, _, _) => true,
-        Decision::Commit(_, _) => true,
-        Decision::KnownPair(_, _) => true,
-        Decision::NewPair(_, _, _, _) => true,
-        Decision::Switch(_, _) => true,
-        Decision::Hand(_) => true,
+        Decision::Act(_) => true,
         Decision::Build(_, _) => true,
-        Decision::Panic => true,
+    }
+}
+
+// What the replica concerned, `me`, does at what has reached it.
+fn act_on(
+    p: Replica,
+    act: Act,
+    me: usize,
+    roles: Roles,
+    table: &Table,
+    heads: &Heads,
+    lists: &Lists,
+    ledger: &mut Ledger,
+    issued: &mut Issued,
+) -> Replica
+    ensures { λ r. ⌜ applied r (book (now (ledger .exit)) (now (issued .exit))) ≡ actOn p act me roles (now (table .entry)) (now (heads .entry)) (now (lists .entry)) (book (now (ledger .entry)) (now (issued .entry))) ⌝ }
+{
+    let leader = roles.leader;
+    match act {
+        Act::Prepare(sender, value, request) => {
+            prepare(p, sender, value, request, me, leader, table, ledger, issued)
+        }
+        Act::Commit(sender, value) => {
+            commit(p, sender, value, me, leader, table, ledger, issued)
+        }
+        Act::KnownPair(sender, value) => accept_pair(p, sender, value, me, leader, table),
+        Act::NewPair(sender, value, request, mark) => {
+            accept_pair(p.note_pair(request, mark), sender, value, me, leader, table)
+        }
+        Act::Switch(sender, value) => {
+            accept_switch(p, sender, value, roles.f, roles.size, heads, lists)
+        }
+        Act::Hand(history) => hand(p, history, me, ledger, issued),
+        Act::Panic => p.halt(),
     }
 }
 
@@ -374,26 +397,11 @@ pub fn apply(
 ) -> Replica
     ensures { λ r. ⌜ applied r (book (now (ledger .exit)) (now (issued .exit))) ≡ applyOn p decision desk me roles (now (table .entry)) (now (heads .entry)) (now (lists .entry)) (book (now (ledger .entry)) (now (issued .entry))) ⌝ }
 {
-    let leader = roles.leader;
     match decision {
         Decision::Submit(request) => lead(p, request, me, ledger, issued),
         Decision::Issue(x, name, content) => issue_freely(p, x, name, content, ledger, issued),
-        Decision::Prepare(sender, value, request) => {
-            prepare(p, sender, value, request, me, leader, table, ledger, issued)
-        }
-        Decision::Commit(sender, value) => {
-            commit(p, sender, value, me, leader, table, ledger, issued)
-        }
-        Decision::KnownPair(sender, value) => accept_pair(p, sender, value, me, leader, table),
-        Decision::NewPair(sender, value, request, mark) => {
-            accept_pair(p.note_pair(request, mark), sender, value, me, leader, table)
-        }
-        Decision::Switch(sender, value) => {
-            accept_switch(p, sender, value, roles.f, roles.size, heads, lists)
-        }
-        Decision::Hand(history) => hand(p, history, me, ledger, issued),
+        Decision::Act(act) => act_on(p, act, me, roles, table, heads, lists, ledger, issued),
         Decision::Build(_, _) => build(p, desk.histories, me, ledger, issued),
-        Decision::Panic => p.halt(),
         Decision::Refuse(_) => p,
         Decision::Idle => p,
         Decision::File(_, _) => p,

@@ -8,7 +8,7 @@ use Rattle.terms.specs.ListLaws.{split}
 use Rattle.terms.specs.Kit.{Kit}
 use Rattle.terms.specs.Padding.{pad}
 use Rattle.rules.specs.Room.{Room, withClock, withLate}
-use Rattle.rules.specs.laws.Holding.{none-of}
+use Rattle.rules.specs.laws.Tested.{none-of}
 use Rattle.rules.specs.Clock.{tick}
 use Rattle.rules.specs.laws.Growth.{tick-grows}
 use Rattle.rules.specs.laws.Refused.{tick-ticked}

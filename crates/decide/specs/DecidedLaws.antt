@@ -1,38 +1,37 @@
 -- On a room's own parts, within its bounds, and for a good event, what Decided says is what the rules decide. Assumes nothing.
-use mathlib.Core.Path.{_≡_, refl}
+use mathlib.Core.Path.{_≡_, refl, fun-ext}
+use mathlib.Core.Bool.{Bool, true, false}
 use mathlib.Core.Option.{Option, none, some}
 use mathlib.Core.List.{List}
 use Prim.Native.Nat.{ℕ, _-_, _<_}
 use native.Mathlib.Omega.{arith}
 use lib.ListN.{length}
-use lib.Dec.{eqb}
 use borrow.Author.Tests.{lt-leb}
 use Rattle.terms.specs.Limits.{replicas}
-use Rattle.terms.specs.Lists.{pick, isSome}
+use Rattle.terms.specs.Lists.{isSome}
 use Rattle.terms.specs.Padding.{pad, take-pad, getD-pad}
 use Rattle.terms.specs.Kit.{Kit, GoodKit, GoodEvent}
 use Rattle.terms.specs.declared.Content.{Content}
-use Rattle.terms.specs.declared.Content.the-variants as Content
 use Rattle.terms.specs.declared.Event.{Event}
 use Rattle.terms.specs.declared.Event.the-variants as Event
-use Rattle.rules.specs.Table.{ag, up, actives, switchLeader}
+use Rattle.terms.specs.declared.Decision.{Decision}
+use Rattle.rules.specs.Table.{ag, up, isActive, actives, switchLeader}
 use Rattle.rules.specs.Room.{Room}
-use Rattle.rules.specs.Reading.{contentAt}
-use Rattle.rules.specs.Submit.{namesUnfiled}
-use Rattle.rules.specs.Deliver.{expectsPrepare, expectsCommit, expectsPair, expectsUpdate, isTooLate, hasWrongRoles}
+use Rattle.rules.specs.Reading.{entryAt, agTotal}
+use Rattle.rules.specs.Sight.{sightOf}
+use Rattle.rules.specs.Switching.{built}
+use Rattle.rules.specs.Decide.{concerned, decide}
 use Rattle.ledger.specs.LedgerLaws.{total-laid}
 use Rattle.replica.specs.declared.Replica.{Replica}
+use Rattle.replica.specs.Record.{activeIn}
 use Rattle.replica.specs.RecordLayout.{numberOr0, layReplica}
 use Rattle.replica.specs.RecordLaws.{accepted-laid, active-laid, actives-laid, settled-laid}
 use Rattle.room.specs.declared.Roles.{Roles}
 use Rattle.room.specs.declared.Standing.{Standing}
-use Rattle.room.specs.declared.Decision.{Decision}
-use Rattle.room.specs.declared.Decision.the-variants.{Idle}
-use Rattle.room.specs.Decide.{decideSubmit, decideIssue, decideAg, decideUp, decideSw, decideDeliver, decideHand, decidePanic, decideBuild, decideFile, decide, concerned}
 use Rattle.room.specs.Layout.{Parts, layRoles, layTable, layDesk, layRoom}
 use Rattle.room.specs.Bounds.{Bounds}
 use Rattle.room.specs.GoodLaws.{concerned-below}
-use Rattle.decide.specs.Decided.{switchLeaderOf, belowSeven, concernedIn, namesUnfiledIn, heldIn, isNewIn, isTooLateIn, hasWrongRolesIn, decideSubmitOn, decideIssueOn, decidePrepareOn, decideCommitOn, decidePairOn, decideUpdateOn, decideSwitchOn, decideContentOn, decideReceiveOn, decideDeliverOn, decideHoldOn, decideHandOn, decidePanicOn, decideBuildOn, decideFileOn, decideOn}
+use Rattle.decide.specs.Decided.{switchLeaderOf, belowSeven, concernedIn, heldIn, sightIn, decideOn}
 use Rattle.decide.specs.ValidLaws.{content-laid, leader-seven, switcher-seven, table-seven, valid-laid}
 
 -- ---- an event decided on the player's parts
@@ -67,22 +66,30 @@ concerned-laid kit Event.Idle list k g = refl
 concerned-laid kit Event.Build list k g = below-is (switchLeader kit) (concerned-below kit Event.Build list k g)
 concerned-laid kit (Event.File j m) list k g = refl
 
--- ---- small tests
-
-names-laid : (r : Room) (content : Content) → namesUnfiledIn (length (r .histories)) content ≡ namesUnfiled r content
-names-laid r (Content.Prepare request) = refl
-names-laid r (Content.Commit request value) = refl
-names-laid r (Content.Update request mark) = refl
-names-laid r (Content.History number) = refl
-names-laid r (Content.Switch number) = refl
+-- ---- the parts are asked what the room is asked
 
 held-laid : (o : Option ℕ) → heldIn (isSome o) (numberOr0 o) ≡ o
 held-laid none = refl
 held-laid (some h) = refl
 
-roles-laid : (kit : Kit) (sender name to : ℕ) → hasWrongRolesIn (layTable kit) sender name to ≡ hasWrongRoles kit sender name to
-unfolding hasWrongRolesIn hasWrongRoles layTable
-roles-laid kit sender name to = rw (active-laid kit sender, active-laid kit to)
+pub is-held : (holding : Bool) (held : ℕ) → isSome (heldIn holding held) ≡ holding
+is-held true held = refl
+is-held false held = refl
+
+-- and they answer the same
+sight-laid : (kit : Kit) (r : Room) (x : ℕ)
+    → (let p = layReplica (r .replica x) in sightIn (standingOf p) (kit .leader) (p .noted) (p .marks) (pad 64 (r .submitted)) (length (r .submitted)))
+    ≡ sightOf kit r x
+unfolding layReplica
+sight-laid kit r x =
+    let p = r .replica x in
+    let noted : entryAt (pad 64 (p .noted)) ≡ entryAt (p .noted) = fun-ext (λ i. getD-pad 64 (p .noted) (i - 1)) in
+    let marks : entryAt (pad 64 (p .pairMarks)) ≡ entryAt (p .pairMarks) = fun-ext (λ i. getD-pad 64 (p .pairMarks) (i - 1)) in
+    rw (noted, marks, take-pad 64 (r .submitted), take-pad 64 (p .noted), held-laid (p .held))
+
+actives-in : (kit : Kit) → activeIn (layTable kit) ≡ isActive kit
+unfolding layTable
+actives-in kit = fun-ext (active-laid kit)
 
 -- ---- by kind
 
@@ -91,58 +98,49 @@ module _ (kit : Kit) (r : Room) (b : Bounds kit r) (known : ℕ) where
   abbrev decided : ℕ → Event → Decision
   decided x event = decidedOn (layRoles kit) (layTable kit) (layRoom r known) (layReplica (r .replica x)) event
 
-  submit-laid : (x request : ℕ) → decided x (Event.Submit request) ≡ decideSubmit r request
-  unfolding decidedOn decideOn layRoom layDesk decideSubmitOn decideSubmit
+  submit-laid : (x request : ℕ) → decided x (Event.Submit request) ≡ decide kit r (Event.Submit request)
+  unfolding decidedOn decideOn layRoom layDesk decide
   submit-laid x request = rw (take-pad 64 (r .submitted))
 
-  issue-laid : (x name : ℕ) (content : Content) → x < 7 → name < 3 → decided x (Event.Issue x name content) ≡ decideIssue r x name content
-  unfolding decidedOn decideOn layRoom layDesk layReplica decideIssueOn decideIssue
-  issue-laid x name content hx hn = rw (total-laid (r .counter) x name hx hn, names-laid r content)
+  issue-laid : (x name : ℕ) (content : Content) → x < 7 → name < 3 → decided x (Event.Issue x name content) ≡ decide kit r (Event.Issue x name content)
+  unfolding decidedOn decideOn layRoom layDesk layReplica decide
+  issue-laid x name content hx hn = rw (total-laid (r .counter) x name hx hn)
 
-  panic-laid : (to : ℕ) → decided to (Event.Panic to) ≡ decidePanic r to
-  unfolding decidedOn decideOn layReplica decidePanicOn decidePanic
+  panic-laid : (to : ℕ) → decided to (Event.Panic to) ≡ decide kit r (Event.Panic to)
+  unfolding decidedOn decideOn layReplica decide
   panic-laid to = refl
 
-  idle-laid : (x : ℕ) → decided x Event.Idle ≡ Idle
-  unfolding decidedOn decideOn
+  idle-laid : (x : ℕ) → decided x Event.Idle ≡ decide kit r Event.Idle
+  unfolding decidedOn decideOn decide
   idle-laid x = refl
 
-  file-laid : (x j k : ℕ) → decided x (Event.File j k) ≡ decideFile r j k
-  unfolding decidedOn decideOn layRoom layDesk decideFileOn decideFile
+  file-laid : (x j k : ℕ) → decided x (Event.File j k) ≡ decide kit r (Event.File j k)
+  unfolding decidedOn decideOn layRoom layDesk decide
   file-laid x j k = refl
 
-  -- what is expected on ag, on up, on sw
-  expected-laid : (sender name value to : ℕ) (content : Option Content)
-      → decideContentOn (standingOf (layReplica (r .replica to))) (kit .leader) (layReplica (r .replica to) .noted) (layReplica (r .replica to) .marks) (pad 64 (r .submitted)) (length (r .submitted)) sender name value content
-      ≡ pick (eqb name ag) (decideAg kit r sender value to content) (pick (eqb name up) (decideUp r sender value to content) (decideSw r sender value to content))
-  unfolding decideContentOn decidePrepareOn decideCommitOn decidePairOn decideUpdateOn decideSwitchOn isNewIn layReplica decideAg decideUp decideSw expectsPrepare expectsCommit expectsPair expectsUpdate
-  expected-laid sender name value to content =
-      let p = r .replica to in
-      rw (take-pad 64 (r .submitted), take-pad 64 (p .noted), getD-pad 64 (p .noted) (value - 1), getD-pad 64 (p .pairMarks) (value - 1), held-laid (p .held))
-
-  deliver-laid : (sender name value to : ℕ) → sender < 7 → name < 3 → decided to (Event.Deliver sender name value to) ≡ decideDeliver kit r sender name value to
-  unfolding decidedOn decideOn layRoom layDesk layRoles decideDeliverOn decideReceiveOn decideDeliver isTooLateIn isTooLate layReplica
+  deliver-laid : (sender name value to : ℕ) → sender < 7 → name < 3 → decided to (Event.Deliver sender name value to) ≡ decide kit r (Event.Deliver sender name value to)
+  unfolding decidedOn decideOn layRoom layDesk layRoles decide
   deliver-laid sender name value to hs hn =
-      let content = contentAt (r .counter sender name) value in
-      rw (content-laid kit r b sender name value hs hn, roles-laid kit sender name to, accepted-laid (r .replica to) sender name hs hn, expected-laid sender name value to content)
+      rw (content-laid kit r b sender name value hs hn, sight-laid kit r to, actives-in kit, accepted-laid (r .replica to) sender name hs hn)
 
-  hand-laid : (p q to : ℕ) → decided to (Event.Hand p q to) ≡ decideHand kit r p q to
-  unfolding decidedOn decideOn layRoom layDesk layRoles layReplica decideHandOn decideHoldOn decideHand
+  hand-laid : (p q to : ℕ) → decided to (Event.Hand p q to) ≡ decide kit r (Event.Hand p q to)
+  unfolding decidedOn decideOn layRoom layDesk layRoles layReplica decide
   hand-laid p q to =
       let s = switchLeader kit in
-      rw (content-laid kit r b s ag p (switcher-seven kit r b) (omega arith), content-laid kit r b s up q (switcher-seven kit r b) (omega arith), take-pad 64 (r .submitted), valid-laid kit r b _ p q)
+      let valid = fun-ext (λ h. valid-laid kit r b h p q) in
+      rw (content-laid kit r b s ag p (switcher-seven kit r b) (omega arith), content-laid kit r b s up q (switcher-seven kit r b) (omega arith), take-pad 64 (r .submitted), valid, held-laid (r .replica to .held))
 
-  build-laid : decided (switchLeader kit) Event.Build ≡ decideBuild kit r
-  unfolding decidedOn decideOn layRoom layRoles layTable layReplica decideBuildOn decideBuild
+  build-laid : decided (switchLeader kit) Event.Build ≡ decide kit r Event.Build
+  unfolding decidedOn decideOn layRoom layRoles layTable layReplica decide built
   build-laid =
       let s = switchLeader kit in
       let p = r .replica s in
-      rw (total-laid (r .counter) s ag (switcher-seven kit r b) (omega arith), settled-laid kit p (table-seven kit r b) s (length (r .counter s ag)) (leader-seven kit r b))
+      rw (total-laid (r .counter) s ag (switcher-seven kit r b) (omega arith), settled-laid kit p (table-seven kit r b) s (agTotal r s) (leader-seven kit r b), held-laid (p .held))
 
 -- the law: a good event, decided with the record of the replica concerned, is decided as the rules decide it
 pub decided-laid : (kit : Kit) (r : Room) (known : ℕ) (event : Event) (list : List ℕ) → Bounds kit r → GoodEvent (replicas (kit .f)) event list
     → decidedOn (layRoles kit) (layTable kit) (layRoom r known) (layReplica (r .replica (concerned kit event))) event ≡ decide kit r event
-unfolding decide concerned
+unfolding concerned
 decided-laid kit r known (Event.Submit request) list b g = submit-laid kit r b known (kit .leader) request
 decided-laid kit r known (Event.Issue replica name content) list b g =
     issue-laid kit r b known replica name content (omega (arith, g .0, b .good .f-high)) (omega (arith, g .1))

@@ -24,7 +24,7 @@ use Rattle.ledger.specs.LedgerLayout.{layLedger, layIssued}
 use Rattle.ledger.specs.Ledger.{contentOn}
 use Rattle.ledger.specs.LedgerLaws as Ledger
 use Rattle.replica.specs.RecordLaws.{actives-laid}
-use Rattle.room.specs.Decide.{concerned}
+use Rattle.rules.specs.Decide.{concerned}
 use Rattle.room.specs.Layout.{layTable, layHeads, layLists}
 use Rattle.room.specs.LayoutLaws.{head-laid, list-laid}
 use Rattle.rules.specs.agreement.Invariant.{FilingBounds}

@@ -1,27 +1,34 @@
 // What an event comes to: the answers in their order, and what is to be done where the event is taken. Everything is read, nothing changed.
 ghost use mathlib.Core.Path.{_≡_};
 ghost use Rattle.terms.specs.Numbers.{answerNumber};
-ghost use Rattle.room.specs.Decide.{answerOf};
 ghost use mathlib.Core.Option.{some};
 ghost use Prim.Native.Nat.{_-_};
 ghost use mathlib.Core.Bool.{not, _&&_};
 ghost use lib.Dec.{leb, eqb};
-ghost use lib.ListN.{getD};
-ghost use Rattle.rules.specs.Table.{sw};
-ghost use Rattle.rules.specs.Reading.{isRunning, isClosed, isFaulty};
-ghost use Rattle.decide.specs.Decided.{switchLeaderOf, belowSeven, concernedIn, decideSubmitOn, namesUnfiledIn, decideIssueOn, isNewIn, decidePrepareOn, decideCommitOn, decidePairOn, decideUpdateOn, decideSwitchOn, decideContentOn, isTooLateIn, hasWrongRolesIn, decideReceiveOn, decideDeliverOn, decideHoldOn, decideHandOn, decidePanicOn, decideBuildOn, decideFileOn, decideOn};
+ghost use lib.ListN.{getD, take};
+ghost use Rattle.terms.specs.Lists.{holds, isSome};
+ghost use Rattle.rules.specs.Table.{ag, sw};
+ghost use Rattle.rules.specs.Reading.{isRunning, isClosed, isFaulty, entryAt};
+ghost use Rattle.rules.specs.Outcome.{answerOf};
+ghost use Rattle.rules.specs.Submit.{decideSubmit, namesUnfiled, decideIssue, decideFile};
+ghost use Rattle.rules.specs.Deliver.{decidePrepare, decideCommit, decidePair, decideUpdate, decideSw, decideContent, isTooLate, hasWrongRoles, decideReceive, decideDeliver};
+ghost use Rattle.rules.specs.Switching.{decidePanic, decideBuild, decideHold, decideHand};
+ghost use Rattle.ledger.specs.Ledger.{totalOf, contentOn};
+ghost use Rattle.replica.specs.Record.{acceptedIn, activeIn, settledIn};
+ghost use Rattle.decide.specs.Decided.{switchLeaderOf, belowSeven, concernedIn, isNewIn, heldIn, sightIn, validIn, handingIn, decideOn};
 use ledger::Issued;
 use ledger::Ledger;
-use room::Decision;
 use room::Desk;
 use room::Roles;
 use room::Standing;
 use terms::AG;
 use terms::Accepted;
+use terms::Act;
 use terms::Answer;
 use terms::Condition;
 use terms::Content;
 use terms::ContentChoice;
+use terms::Decision;
 use terms::Event;
 use terms::FILED;
 use terms::Heads;
@@ -136,7 +143,7 @@ pub fn concerned(event: Event, roles: Roles) -> usize
 
 // Kind 1: already submitted; 64 submitted.
 fn submit(requests: &Requests, submitted: usize, request: u32) -> Decision
-    ensures { λ r. ⌜ r ≡ decideSubmitOn (now (requests .entry)) submitted request ⌝ }
+    ensures { λ r. ⌜ r ≡ decideSubmit (λ q. holds q (take submitted (now (requests .entry)))) submitted request ⌝ }
 {
     if terms::holds(requests, submitted, request) {
         return Decision::Refuse(Answer::AlreadySubmitted);
@@ -149,7 +156,7 @@ fn submit(requests: &Requests, submitted: usize, request: u32) -> Decision
 
 // HISTORY or SWITCH of a number that is not filed yet.
 fn names_unfiled(histories: usize, content: Content) -> bool
-    ensures { λ r. ⌜ r ≡ namesUnfiledIn histories content ⌝ }
+    ensures { λ r. ⌜ r ≡ namesUnfiled histories content ⌝ }
 {
     match content {
         Content::Prepare(_) => false,
@@ -169,7 +176,7 @@ fn issue(
     name: usize,
     content: Content,
 ) -> Decision
-    ensures { λ r. ⌜ r ≡ decideIssueOn (now (issued .entry)) condition histories x name content ⌝ }
+    ensures { λ r. ⌜ r ≡ decideIssue condition histories (totalOf (now (issued .entry)) x name) x name content ⌝ }
 {
     if is_faulty(condition) {
         if names_unfiled(histories, content) {
@@ -212,12 +219,12 @@ fn prepare(
     value: u32,
     content: Content,
 ) -> Decision
-    ensures { λ r. ⌜ r ≡ decidePrepareOn (now (requests .entry)) submitted (now (noted .entry)) count sender value (some content) ⌝ }
+    ensures { λ r. ⌜ r ≡ decidePrepare (isNewIn (now (requests .entry)) submitted (now (noted .entry)) count) sender value (some content) ⌝ }
 {
     let request = ledger::first_of(content);
     if ledger::is_same(content, Content::Prepare(request)) {
         if is_new(requests, submitted, noted, count, request) {
-            return Decision::Prepare(sender, value, request);
+            return Decision::Act(Act::Prepare(sender, value, request));
         }
         return Decision::Refuse(Answer::Unexpected);
     }
@@ -233,12 +240,12 @@ fn is_noted(value: u32, count: usize) -> bool
 
 // From another active replica: COMMIT of the receiver's noted request of that value, which must exist.
 fn commit(noted: &Requests, count: usize, sender: usize, value: u32, content: Content) -> Decision
-    ensures { λ r. ⌜ r ≡ decideCommitOn (now (noted .entry)) count sender value (some content) ⌝ }
+    ensures { λ r. ⌜ r ≡ decideCommit count (entryAt (now (noted .entry))) sender value (some content) ⌝ }
 {
     if is_noted(value, count) {
         let request = entry(noted, place_of(value));
         if ledger::is_same(content, Content::Commit(request, value)) {
-            return Decision::Commit(sender, value);
+            return Decision::Act(Act::Commit(sender, value));
         }
         return Decision::Refuse(Answer::Unexpected);
     }
@@ -253,13 +260,13 @@ fn known_pair(
     value: u32,
     content: Content,
 ) -> Decision
-    ensures { λ r. ⌜ r ≡ decidePairOn (now (noted .entry)) (now (marks .entry)) sender value (some content) ⌝ }
+    ensures { λ r. ⌜ r ≡ decidePair (entryAt (now (noted .entry))) (entryAt (now (marks .entry))) sender value (some content) ⌝ }
 {
     let i = place_of(value);
     let request = entry(noted, i);
     let mark = entry(marks, i);
     if ledger::is_same(content, Content::Update(request, mark)) {
-        return Decision::KnownPair(sender, value);
+        return Decision::Act(Act::KnownPair(sender, value));
     }
     Decision::Refuse(Answer::Unexpected)
 }
@@ -274,13 +281,13 @@ fn new_pair(
     value: u32,
     content: Content,
 ) -> Decision
-    ensures { λ r. ⌜ r ≡ decideUpdateOn (now (requests .entry)) submitted (now (noted .entry)) count sender value (some content) ⌝ }
+    ensures { λ r. ⌜ r ≡ decideUpdate (isNewIn (now (requests .entry)) submitted (now (noted .entry)) count) sender value (some content) ⌝ }
 {
     let request = ledger::first_of(content);
     let mark = ledger::second_of(content);
     if ledger::is_same(content, Content::Update(request, mark)) {
         if is_new(requests, submitted, noted, count, request) {
-            return Decision::NewPair(sender, value, request, mark);
+            return Decision::Act(Act::NewPair(sender, value, request, mark));
         }
         return Decision::Refuse(Answer::Unexpected);
     }
@@ -289,11 +296,11 @@ fn new_pair(
 
 // On sw: SWITCH of the history that the receiver holds.
 fn switch(holding: bool, held: u32, sender: usize, value: u32, content: Content) -> Decision
-    ensures { λ r. ⌜ r ≡ decideSwitchOn holding held sender value (some content) ⌝ }
+    ensures { λ r. ⌜ r ≡ decideSw (heldIn holding held) sender value (some content) ⌝ }
 {
     if holding {
         if ledger::is_same(content, Content::Switch(held)) {
-            return Decision::Switch(sender, value);
+            return Decision::Act(Act::Switch(sender, value));
         }
         return Decision::Refuse(Answer::Unexpected);
     }
@@ -313,7 +320,7 @@ fn on_content(
     value: u32,
     content: Content,
 ) -> Decision
-    ensures { λ r. ⌜ r ≡ decideContentOn standing leader (now (noted .entry)) (now (marks .entry)) (now (requests .entry)) submitted sender name value (some content) ⌝ }
+    ensures { λ r. ⌜ r ≡ decideContent (sightIn standing leader (now (noted .entry)) (now (marks .entry)) (now (requests .entry)) submitted) sender name value (some content) ⌝ }
 {
     let count = standing.count;
     if name == AG {
@@ -333,7 +340,7 @@ fn on_content(
 
 // On ag or up to a halted or closed receiver; on sw to a closed one.
 fn is_too_late(name: usize, condition: Condition) -> bool
-    ensures { λ r. ⌜ r ≡ isTooLateIn name condition ⌝ }
+    ensures { λ r. ⌜ r ≡ isTooLate name condition ⌝ }
 {
     if name == SW {
         return is_closed(condition);
@@ -345,8 +352,8 @@ fn is_too_late(name: usize, condition: Condition) -> bool
 }
 
 // On sw to a receiver that holds no history.
-fn is_too_early(name: usize, holding: bool) -> bool
-    ensures { λ r. ⌜ r ≡ eqb name sw && not holding ⌝ }
+fn is_too_early(name: usize, holding: bool, held: u32) -> bool
+    ensures { λ r. ⌜ r ≡ eqb name sw && not (isSome (heldIn holding held)) ⌝ }
 {
     if name == SW {
         return !holding;
@@ -356,7 +363,7 @@ fn is_too_early(name: usize, holding: bool) -> bool
 
 // The sender is not the receiver; ag needs both active; up needs an active sender and a passive receiver.
 fn has_wrong_roles(table: &Table, sender: usize, name: usize, to: usize) -> bool
-    ensures { λ r. ⌜ r ≡ hasWrongRolesIn (now (table .entry)) sender name to ⌝ }
+    ensures { λ r. ⌜ r ≡ hasWrongRoles (activeIn (now (table .entry))) sender name to ⌝ }
 {
     if sender == to {
         return true;
@@ -394,13 +401,13 @@ fn receive(
     to: usize,
     content: Content,
 ) -> Decision
-    ensures { λ r. ⌜ r ≡ decideReceiveOn standing leader (now (noted .entry)) (now (marks .entry)) (now (accepted .entry)) (now (table .entry)) (now (requests .entry)) submitted sender name value to (some content) ⌝ }
+    ensures { λ r. ⌜ r ≡ decideReceive (sightIn standing leader (now (noted .entry)) (now (marks .entry)) (now (requests .entry)) submitted) (activeIn (now (table .entry))) (acceptedIn (now (accepted .entry)) sender name) (record { sender = sender; name = name; value = value; to = to }) (some content) ⌝ }
 {
     let condition = standing.condition;
     if is_too_late(name, condition) {
         return Decision::Refuse(Answer::TooLate);
     }
-    if is_too_early(name, standing.holding) {
+    if is_too_early(name, standing.holding, standing.held) {
         return Decision::Refuse(Answer::TooEarly);
     }
     if has_wrong_roles(table, sender, name, to) {
@@ -441,7 +448,7 @@ fn deliver(
     value: u32,
     to: usize,
 ) -> Decision
-    ensures { λ r. ⌜ r ≡ decideDeliverOn standing leader (now (noted .entry)) (now (marks .entry)) (now (accepted .entry)) (now (table .entry)) (now (requests .entry)) submitted (now (ledger .entry)) (now (issued .entry)) sender name value to ⌝ }
+    ensures { λ r. ⌜ r ≡ decideDeliver (sightIn standing leader (now (noted .entry)) (now (marks .entry)) (now (requests .entry)) submitted) (activeIn (now (table .entry))) (acceptedIn (now (accepted .entry)) sender name) (record { sender = sender; name = name; value = value; to = to }) (contentOn (now (ledger .entry)) (now (issued .entry)) sender name value) ⌝ }
 {
     let condition = standing.condition;
     if is_faulty(condition) {
@@ -484,7 +491,7 @@ fn hold(
     to: usize,
     h: u32,
 ) -> Decision
-    ensures { λ r. ⌜ r ≡ decideHoldOn standing roles desk (now (table .entry)) (now (requests .entry)) (now (heads .entry)) (now (lists .entry)) (now (ledger .entry)) (now (issued .entry)) p q to h ⌝ }
+    ensures { λ r. ⌜ r ≡ decideHold (standing .condition) (heldIn (standing .holding) (standing .held)) (validIn roles desk (now (table .entry)) (now (requests .entry)) (now (heads .entry)) (now (lists .entry)) (now (ledger .entry)) (now (issued .entry)) p q h) (roles .switcher) to h ⌝ }
 {
     let condition = standing.condition;
     if standing.holding {
@@ -514,7 +521,7 @@ fn hold(
         p,
         q,
     ) {
-        return Decision::Hand(h);
+        return Decision::Act(Act::Hand(h));
     }
     Decision::Refuse(Answer::NotValid)
 }
@@ -534,7 +541,7 @@ fn hand(
     q: u32,
     to: usize,
 ) -> Decision
-    ensures { λ r. ⌜ r ≡ decideHandOn standing roles desk (now (table .entry)) (now (requests .entry)) (now (heads .entry)) (now (lists .entry)) (now (ledger .entry)) (now (issued .entry)) p q to ⌝ }
+    ensures { λ r. ⌜ r ≡ decideHand (standing .condition) (heldIn (standing .holding) (standing .held)) (handingIn roles desk (now (table .entry)) (now (requests .entry)) (now (heads .entry)) (now (lists .entry)) (now (ledger .entry)) (now (issued .entry)) p q to) ⌝ }
 {
     let condition = standing.condition;
     if is_faulty(condition) {
@@ -570,10 +577,10 @@ fn hand(
 
 // Kind 5: receiver faulty; halted or closed.
 fn panic(condition: Condition) -> Decision
-    ensures { λ r. ⌜ r ≡ decidePanicOn condition ⌝ }
+    ensures { λ r. ⌜ r ≡ decidePanic condition ⌝ }
 {
     match condition {
-        Condition::Running => Decision::Panic,
+        Condition::Running => Decision::Act(Act::Panic),
         Condition::Halted => Decision::Refuse(Answer::TooLate),
         Condition::Closed => Decision::Refuse(Answer::TooLate),
         Condition::Faulty => Decision::Refuse(Answer::ReceiverFaulty),
@@ -588,7 +595,7 @@ fn build(
     table: &Table,
     issued: &Issued,
 ) -> Decision
-    ensures { λ r. ⌜ r ≡ decideBuildOn standing roles (now (accepted .entry)) (now (table .entry)) (now (issued .entry)) ⌝ }
+    ensures { λ r. ⌜ r ≡ decideBuild (standing .condition) (heldIn (standing .holding) (standing .held)) (settledIn (now (accepted .entry)) (now (table .entry)) (roles .leader) (roles .switcher) (totalOf (now (issued .entry)) (roles .switcher) ag)) (totalOf (now (issued .entry)) (roles .switcher) ag) ⌝ }
 {
     let condition = standing.condition;
     if is_faulty(condition) {
@@ -607,7 +614,7 @@ fn build(
 
 // Kind 8: events 8 have filed seven.
 fn file(filed: usize, j: u32, k: u32) -> Decision
-    ensures { λ r. ⌜ r ≡ decideFileOn filed j k ⌝ }
+    ensures { λ r. ⌜ r ≡ decideFile filed j k ⌝ }
 {
     if FILED <= filed {
         return Decision::Refuse(Answer::FilesFull);
@@ -683,13 +690,7 @@ pub fn answer_of(decision: Decision) -> u32
         Decision::Refuse(answer) => terms::number_of_answer(answer),
         Decision::Submit(_) => 0,
         Decision::Issue(_, _, _) => 0,
-        Decision::Prepare(_, _, _) => 0,
-        Decision::Commit(_, _) => 0,
-        Decision::KnownPair(_, _) => 0,
-        Decision::NewPair(_, _, _, _) => 0,
-        Decision::Switch(_, _) => 0,
-        Decision::Hand(_) => 0,
-        Decision::Panic => 0,
+        Decision::Act(_) => 0,
         Decision::Idle => 0,
         Decision::Build(_, _) => 0,
         Decision::File(_, _) => 0,

@@ -10,10 +10,10 @@ use Rattle.ledger.specs.Ledger.{Places}
 use Rattle.replica.specs.declared.Replica.{Replica}
 use Rattle.room.specs.declared.Desk.{Desk}
 use Rattle.room.specs.declared.Roles.{Roles}
-use Rattle.room.specs.declared.Decision.{Decision}
+use Rattle.terms.specs.declared.Decision.{Decision}
 use Rattle.room.specs.Desk.{freshDesk}
 use Rattle.room.specs.Layout.{Parts}
-use Rattle.room.specs.Decide.{answerOf}
+use Rattle.rules.specs.Outcome.{answerOf}
 use Rattle.kit.specs.Reader.{nextIn, listAfter}
 use Rattle.kit.specs.declared.Next.{Next}
 use Rattle.clock.specs.Clocked.{clockOn}

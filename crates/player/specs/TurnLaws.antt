@@ -14,9 +14,9 @@ use Rattle.terms.specs.declared.Event.the-variants as Event
 use Rattle.ledger.specs.Ledger.{book}
 use Rattle.room.specs.declared.Desk.{Desk}
 use Rattle.room.specs.declared.Roles.{Roles}
-use Rattle.room.specs.declared.Decision.{Decision}
+use Rattle.terms.specs.declared.Decision.{Decision}
 use Rattle.room.specs.Desk.{countedOn}
-use Rattle.room.specs.Decide.{answerOf}
+use Rattle.rules.specs.Outcome.{answerOf}
 use Rattle.terms.specs.Numbers.{answerNumber}
 use Rattle.kit.specs.Reader.{nextIn, listAfter}
 use Rattle.kit.specs.declared.Next.{Next}

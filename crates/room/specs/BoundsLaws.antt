@@ -1,17 +1,16 @@
 -- What the bounds give where a replica notes, issues or builds: there is room. Assumes nothing.
 use mathlib.Core.Path.{_≡_, sym}
-use mathlib.Core.Bool.{true, false, not}
+use mathlib.Core.Bool.{true, false}
 use mathlib.Core.List.{List, _∷_, _++_}
 use Prim.Native.Nat.{ℕ, zero, suc, _≤_, _<_}
 use native.Mathlib.Omega.{arith}
 use lib.ListN.{length, length-append}
 use Rattle.terms.specs.Limits.{requestsMax}
 use Rattle.terms.specs.Lists.{holds, Once}
-use Rattle.terms.specs.ListLaws.{and-l, and-r, not-was-true, once-cons}
+use Rattle.terms.specs.ListLaws.{once-cons}
 use Rattle.terms.specs.Kit.{Kit}
 use Rattle.rules.specs.Room.{Room, Replica}
 use Rattle.rules.specs.laws.Missing.{Within, noted-missing, once-length}
-use Rattle.rules.specs.Deliver.{isNew}
 use Rattle.rules.specs.Switching.{missing}
 use Rattle.room.specs.Bounds.{ReplicaBounds, Bounds}
 
@@ -35,11 +34,8 @@ module _ {submitted : List ℕ} {p : Replica} (b : ReplicaBounds submitted p) wh
       omega (arith, length-append (p .noted) (missing (p .noted) submitted), noted-missing (p .noted) submitted (b .noted-once) (b .noted-submitted))
 
 -- a replica notes a new request: it has noted fewer than 64
-pub noting-fits : {kit : Kit} {r : Room} → Bounds kit r → (x q : ℕ) → isNew r (r .replica x) q ≡ true → length (r .replica x .noted) < requestsMax
-noting-fits {kit} {r} b x q e =
-    let is = holds q (r .submitted) in
-    let was = holds q (r .replica x .noted) in
-    let h : holds q (r .submitted) ≡ true = and-l is (not was) e in
-    let n : holds q (r .replica x .noted) ≡ false = not-was-true was (and-r is (not was) e) in
+pub noting-fits : {kit : Kit} {r : Room} → Bounds kit r → (x q : ℕ) → holds q (r .submitted) ≡ true → holds q (r .replica x .noted) ≡ false
+    → length (r .replica x .noted) < requestsMax
+noting-fits {kit} {r} b x q is new =
     let p = b .replicas x in
-    omega (arith, new-fits q (r .replica x .noted) (r .submitted) (p .noted-once) (p .noted-submitted) n h, b .submitted-max)
+    omega (arith, new-fits q (r .replica x .noted) (r .submitted) (p .noted-once) (p .noted-submitted) new is, b .submitted-max)

@@ -4,8 +4,8 @@ use Prim.Native.Nat.{ℕ, _+_}
 use lib.Dec.{ltb}
 use Rattle.terms.specs.Lists.{pick}
 use Rattle.room.specs.declared.Desk.{Desk}
-use Rattle.room.specs.declared.Decision.{Decision}
-use Rattle.room.specs.declared.Decision.the-variants as Decision
+use Rattle.terms.specs.declared.Decision.{Decision}
+use Rattle.terms.specs.declared.Decision.the-variants as Decision
 
 unfoldable pub freshDesk : Desk
 freshDesk = record { clock = 0; late = false; due = 0; known = 0; submitted = 0; histories = 0; filed = 0 }
@@ -22,11 +22,5 @@ countedOn d (Decision.File j k) =
     pick (ltb (d .histories) 8) (pick (ltb (d .filed) 8) (withCounts d (d .submitted) (d .histories + 1) (d .filed + 1)) d) d
 countedOn d (Decision.Refuse answer) = d
 countedOn d (Decision.Issue replica name content) = d
-countedOn d (Decision.Prepare sender value request) = d
-countedOn d (Decision.Commit sender value) = d
-countedOn d (Decision.KnownPair sender value) = d
-countedOn d (Decision.NewPair sender value request mark) = d
-countedOn d (Decision.Switch sender value) = d
-countedOn d (Decision.Hand history) = d
-countedOn d Decision.Panic = d
+countedOn d (Decision.Act act) = d
 countedOn d Decision.Idle = d

@@ -13,7 +13,7 @@ use Rattle.terms.specs.declared.Event.{Event}
 use Rattle.terms.specs.declared.Event.the-variants.{Submit, Issue, Deliver, Hand, Panic, Idle, Build, File}
 use Rattle.rules.specs.Table.{isActive, switchLeader}
 use Rattle.rules.specs.laws.TableLaws.{roles}
-use Rattle.room.specs.Decide.{concerned}
+use Rattle.rules.specs.Decide.{concerned}
 
 -- what a table marks, where 0 marks nothing, stands in it
 marked-below : (t : List ℕ) (mark : ℕ → Bool) → mark 0 ≡ false → (x : ℕ) → mark (getD t x 0) ≡ true → x < length t

@@ -1,6 +1,4 @@
 pub mod Desk
-pub mod Decide
-pub mod DecideLaws
 pub mod Layout
 pub mod LayoutLaws
 pub mod Settled

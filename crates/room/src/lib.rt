@@ -1,9 +1,8 @@
-// What the player keeps of the room beside the replicas and the counters, and what an event is decided to do.
+// What the player keeps of the room beside the replicas and the counters.
 ghost use mathlib.Core.Path.{_≡_};
 ghost use Rattle.room.specs.Desk.{freshDesk, countedOn};
-use terms::Answer;
 use terms::Condition;
-use terms::Content;
+use terms::Decision;
 use terms::HISTORIES;
 use terms::REQUESTS;
 
@@ -37,35 +36,6 @@ pub struct Standing {
     pub pairs: usize,
     pub holding: bool,
     pub held: u32,
-}
-
-// What an event comes to, once it is decided: a refusal, or what is to be done. The replica concerned is known beside it.
-pub enum Decision {
-    // The event is refused.
-    Refuse(Answer),
-    // The request is remembered; the leader, if it runs, prepares it.
-    Submit(u32),
-    // A faulty replica issues on its counter of this name.
-    Issue(usize, usize, Content),
-    // Sender, value, request: the receiver notes and commits it.
-    Prepare(usize, u32, u32),
-    // Sender, value: the receiver accepts a COMMIT.
-    Commit(usize, u32),
-    // Sender, value: the receiver accepts an UPDATE of a pair that it has noted.
-    KnownPair(usize, u32),
-    // Sender, value, request, mark: the receiver notes the pair.
-    NewPair(usize, u32, u32, u32),
-    // Sender, value: the receiver accepts a SWITCH.
-    Switch(usize, u32),
-    // The receiver holds this history.
-    Hand(u32),
-    // The receiver halts.
-    Panic,
-    Idle,
-    // j and k of the history that the switch leader builds.
-    Build(usize, usize),
-    // j and k of the history that is filed.
-    File(u32, u32),
 }
 
 impl Desk {
@@ -124,13 +94,7 @@ impl Desk {
             }
             Decision::Refuse(_) => self,
             Decision::Issue(_, _, _) => self,
-            Decision::Prepare(_, _, _) => self,
-            Decision::Commit(_, _) => self,
-            Decision::KnownPair(_, _) => self,
-            Decision::NewPair(_, _, _, _) => self,
-            Decision::Switch(_, _) => self,
-            Decision::Hand(_) => self,
-            Decision::Panic => self,
+            Decision::Act(_) => self,
             Decision::Idle => self,
         }
     }

@@ -1,25 +1,27 @@
--- Kind 3: a certificate and its content are delivered to one replica, on ag, up or sw. Assumes nothing.
+-- Kind 3: a certificate and its content are delivered to one replica, on ag, up or sw. For each content what is expected, and so decided, and what is
+-- then done; at the end the answers in their order. Assumes nothing.
 use mathlib.Core.Bool.{Bool, false, not, _&&_, _||_}
 use mathlib.Core.Option.{Option, none, some}
 use mathlib.Core.List.{List}
 use Prim.Native.Nat.{ℕ, zero, suc}
 use lib.ListN.{length, getD}
 use lib.Dec.{leb, ltb, eqb}
-use Rattle.terms.specs.Lists.{pick, holds, isSome, countBelow}
+use Rattle.terms.specs.Lists.{pick, isSome, countBelow}
 use Rattle.terms.specs.Mark.{nextMark, markOf}
 use Rattle.terms.specs.Kit.{Kit}
 use Rattle.terms.specs.declared.Content.{Content}
 use Rattle.terms.specs.declared.Content.the-variants.{Prepare, Commit, Update, Switch}
+use Rattle.terms.specs.declared.Condition.{Condition}
 use Rattle.terms.specs.declared.Condition.the-variants.{Closed}
 use Rattle.terms.specs.declared.Answer.the-variants.{NotIssued, ReceiverFaulty, TooLate, TooEarly, NotNext, WrongRoles, Unexpected}
-use Rattle.rules.specs.Table.{ag, up, sw, isActive}
+use Rattle.terms.specs.declared.Act.the-variants as Act
+use Rattle.terms.specs.declared.Decision.{Decision}
+use Rattle.terms.specs.declared.Decision.the-variants as Decision
+use Rattle.rules.specs.Table.{ag, up, sw}
 use Rattle.rules.specs.Room.{Replica, Room, withReplica, withCondition, withMark, note, notePair, accept, issue}
-use Rattle.rules.specs.Reading.{isRunning, isClosed, isFaulty, entryAt, contentAt, isContent, firstOf, secondOf, settledCount, heldList, agTotal}
-use Rattle.rules.specs.Outcome.{Outcome, refuse, taken}
-
--- a request that is submitted and that the receiver has not noted yet
-abbrev pub isNew : Room → Replica → ℕ → Bool
-isNew r p request = holds request (r .submitted) && not (holds request (p .noted))
+use Rattle.rules.specs.Reading.{isRunning, isClosed, isFaulty, isContent, firstOf, secondOf, agTotal, settledCount, heldList}
+use Rattle.rules.specs.Sight.{Sight, isNew}
+use Rattle.rules.specs.Outcome.{refuseIf}
 
 -- ---- settling
 
@@ -31,11 +33,13 @@ settle r x p c d =
     let mark = nextMark (p .mark) request in
     pick (ltb c d) (issue (withReplica r x (withMark p mark)) x up (Update request mark)) (withReplica r x p)
 
--- ---- on ag
+-- ---- on ag, from the leader
 
--- from the leader: PREPARE of a submitted request not yet noted
-unfoldable pub expectsPrepare : Room → Replica → Option Content → Bool
-expectsPrepare r p content = isContent content (Prepare (firstOf content)) && isNew r p (firstOf content)
+-- expected: PREPARE of a submitted request not yet noted
+unfoldable pub decidePrepare : (ℕ → Bool) → ℕ → ℕ → Option Content → Decision
+decidePrepare new sender value content =
+    let request = firstOf content in
+    refuseIf (not (isContent content (Prepare request) && new request)) Unexpected (Decision.Act (Act.Prepare sender value request))
 
 -- the receiver notes it and issues COMMIT on ag naming that leader value
 unfoldable pub afterPrepare : Kit → Room → ℕ → ℕ → ℕ → ℕ → Room
@@ -45,9 +49,12 @@ afterPrepare kit r sender value to request =
     let own = agTotal r to in
     settle (issue r to ag (Commit request value)) to noting (settledCount kit to p own) (settledCount kit to noting (suc own))
 
--- from another active replica, value i: COMMIT with b = i of the receiver's noted request i, which must exist
-unfoldable pub expectsCommit : Replica → ℕ → Option Content → Bool
-expectsCommit p value content = leb value (length (p .noted)) && isContent content (Commit (entryAt (p .noted) value) value)
+-- ---- on ag, from another active replica, value i
+
+-- expected: COMMIT with b = i of the receiver's noted request i, which must exist
+unfoldable pub decideCommit : ℕ → (ℕ → ℕ) → ℕ → ℕ → Option Content → Decision
+decideCommit notedCount notedAt sender value content =
+    refuseIf (not (leb value notedCount && isContent content (Commit (notedAt value) value))) Unexpected (Decision.Act (Act.Commit sender value))
 
 unfoldable pub afterCommit : Kit → Room → ℕ → ℕ → ℕ → Room
 afterCommit kit r sender value to =
@@ -56,85 +63,99 @@ afterCommit kit r sender value to =
     let own = agTotal r to in
     settle r to accepting (settledCount kit to p own) (settledCount kit to accepting own)
 
-unfoldable pub onAg : Kit → Room → ℕ → ℕ → ℕ → Option Content → Outcome
-onAg kit r sender value to content =
-    pick (eqb sender (kit .leader))
-    (refuse (not (expectsPrepare r (r .replica to) content)) Unexpected r (taken (afterPrepare kit r sender value to (firstOf content))))
-    (refuse (not (expectsCommit (r .replica to) value content)) Unexpected r (taken (afterCommit kit r sender value to)))
+unfoldable pub decideAg : Sight → ℕ → ℕ → Option Content → Decision
+decideAg s sender value content =
+    pick (eqb sender (s .leader)) (decidePrepare (isNew s) sender value content)
+    (decideCommit (s .notedCount) (s .notedAt) sender value content)
 
--- ---- on up
+-- ---- on up, value i
 
--- where the receiver has noted that pair: UPDATE equal to it
-unfoldable pub expectsPair : Replica → ℕ → Option Content → Bool
-expectsPair p value content = isContent content (Update (entryAt (p .noted) value) (entryAt (p .pairMarks) value))
+-- where the receiver has noted i pairs or more, expected: UPDATE equal to pair i
+unfoldable pub decidePair : (ℕ → ℕ) → (ℕ → ℕ) → ℕ → ℕ → Option Content → Decision
+decidePair notedAt pairMarkAt sender value content =
+    refuseIf (not (isContent content (Update (notedAt value) (pairMarkAt value)))) Unexpected (Decision.Act (Act.KnownPair sender value))
 
 -- else: UPDATE of a submitted request not yet noted
-unfoldable pub expectsUpdate : Room → Replica → Option Content → Bool
-expectsUpdate r p content = isContent content (Update (firstOf content) (secondOf content)) && isNew r p (firstOf content)
+unfoldable pub decideUpdate : (ℕ → Bool) → ℕ → ℕ → Option Content → Decision
+decideUpdate new sender value content =
+    let request = firstOf content in
+    let mark = secondOf content in
+    refuseIf (not (isContent content (Update request mark) && new request)) Unexpected (Decision.Act (Act.NewPair sender value request mark))
 
 -- pair c's mark, 0 before the first
 abbrev pub markOfPair : List ℕ → ℕ → ℕ
 markOfPair marks zero = 0
 markOfPair marks (suc c) = getD marks c 0
 
--- the receiver's mark is that of its last settled pair
+-- the receiver, whose record is now p, has the mark of its last settled pair
 unfoldable pub afterUpdate : Kit → Room → ℕ → Replica → Room
 afterUpdate kit r to p = withReplica r to (withMark p (markOfPair (p .pairMarks) (settledCount kit to p 0)))
 
-unfoldable pub onUp : Kit → Room → ℕ → ℕ → ℕ → Option Content → Outcome
-onUp kit r sender value to content =
-    let p = r .replica to in
-    pick (leb value (length (p .noted)))
-    (refuse (not (expectsPair p value content)) Unexpected r (taken (afterUpdate kit r to (accept p sender up value))))
-    (refuse (not (expectsUpdate r p content)) Unexpected r
-    (taken (afterUpdate kit r to (accept (notePair p (firstOf content) (secondOf content)) sender up value))))
+unfoldable pub decideUp : Sight → ℕ → ℕ → Option Content → Decision
+decideUp s sender value content =
+    pick (leb value (s .notedCount)) (decidePair (s .notedAt) (s .pairMarkAt) sender value content) (decideUpdate (isNew s) sender value content)
 
 -- ---- on sw
+
+abbrev pub expectsSwitch : Option ℕ → Option Content → Bool
+expectsSwitch none content = false
+expectsSwitch (some h) content = isContent content (Switch h)
+
+-- expected: SWITCH of the history that the receiver holds
+unfoldable pub decideSw : Option ℕ → ℕ → ℕ → Option Content → Decision
+decideSw held sender value content = refuseIf (not (expectsSwitch held content)) Unexpected (Decision.Act (Act.Switch sender value))
 
 -- of how many replicas a SWITCH was accepted. All are other replicas: a certificate of the receiver's own is refused for its roles
 unfoldable pub switches : Kit → Replica → ℕ
 switches kit p = countBelow (length (kit .table)) (λ y. leb 1 (p .accepted y sw))
 
--- with f other replicas accepted, so that with itself it counts f+1, the receiver closes: it has settled the whole list that it holds, its
--- mark is that list's
+-- with f other replicas accepted, so that with itself it counts f+1, the receiver, whose record is now p, closes: it has settled the whole list
+-- that it holds, its mark is that list's
 unfoldable pub afterSwitch : Kit → Room → ℕ → Replica → Room
 afterSwitch kit r to p =
     pick (leb (kit .f) (switches kit p))
     (withReplica r to (withMark (withCondition p Closed) (markOf (heldList r (p .held)))))
     (withReplica r to p)
 
--- SWITCH of the history that the receiver holds
-abbrev pub expectsSwitch : Option ℕ → Option Content → Bool
-expectsSwitch none content = false
-expectsSwitch (some h) content = isContent content (Switch h)
-
-unfoldable pub onSw : Kit → Room → ℕ → ℕ → ℕ → Option Content → Outcome
-onSw kit r sender value to content =
-    let p = r .replica to in
-    refuse (not (expectsSwitch (p .held) content)) Unexpected r (taken (afterSwitch kit r to (accept p sender sw value)))
-
 -- ---- the answers in their order
 
+-- a certificate's sender, name and value, and its receiver
+pub record Delivery : Type 0 where
+  pub sender : ℕ
+  pub name : ℕ
+  pub value : ℕ
+  pub to : ℕ
+
 -- on ag or up to a halted or closed receiver; on sw to a closed one
-unfoldable pub isTooLate : ℕ → Replica → Bool
-isTooLate name p = pick (eqb name sw) (isClosed (p .condition)) (not (isRunning (p .condition)))
+unfoldable pub isTooLate : ℕ → Condition → Bool
+isTooLate name condition = pick (eqb name sw) (isClosed condition) (not (isRunning condition))
 
 -- the sender is not the receiver; ag needs both active; up needs an active sender and a passive receiver
-unfoldable pub hasWrongRoles : Kit → ℕ → ℕ → ℕ → Bool
-hasWrongRoles kit sender name to =
+unfoldable pub hasWrongRoles : (ℕ → Bool) → ℕ → ℕ → ℕ → Bool
+hasWrongRoles active sender name to =
     eqb sender to
-    || pick (eqb name ag) (not (isActive kit sender && isActive kit to))
-    (pick (eqb name up) (not (isActive kit sender && not (isActive kit to))) false)
+    || pick (eqb name ag) (not (active sender && active to))
+    (pick (eqb name up) (not (active sender && not (active to))) false)
 
-unfoldable pub onDeliver : Kit → Room → ℕ → ℕ → ℕ → ℕ → Outcome
-onDeliver kit r sender name value to =
-    let p = r .replica to in
-    let content = contentAt (r .counter sender name) value in
-    refuse (isFaulty (r .replica to .condition)) ReceiverFaulty r
-    (refuse (not (isSome content)) NotIssued r
-    (refuse (isTooLate name p) TooLate r
-    (refuse (eqb name sw && not (isSome (p .held))) TooEarly r
-    (refuse (hasWrongRoles kit sender name to) WrongRoles r
-    (refuse (not (eqb value (suc (p .accepted sender name)))) NotNext r
-    (pick (eqb name ag) (onAg kit r sender value to content)
-    (pick (eqb name up) (onUp kit r sender value to content) (onSw kit r sender value to content))))))))
+-- the content is the one expected on that counter, or not
+unfoldable pub decideContent : Sight → ℕ → ℕ → ℕ → Option Content → Decision
+decideContent s sender name value content =
+    pick (eqb name ag) (decideAg s sender value content)
+    (pick (eqb name up) (decideUp s sender value content) (decideSw (s .held) sender value content))
+
+-- once the certificate is known to be issued: by what the receiver has, which replicas are active, the last value that it accepted of that counter, and
+-- the content
+unfoldable pub decideReceive : Sight → (ℕ → Bool) → ℕ → Delivery → Option Content → Decision
+decideReceive s active last d content =
+    refuseIf (isTooLate (d .name) (s .condition)) TooLate
+    (refuseIf (eqb (d .name) sw && not (isSome (s .held))) TooEarly
+    (refuseIf (hasWrongRoles active (d .sender) (d .name) (d .to)) WrongRoles
+    (refuseIf (not (eqb (d .value) (suc last))) NotNext
+    (decideContent s (d .sender) (d .name) (d .value) content))))
+
+-- by the same; there is a content where the certificate was issued
+unfoldable pub decideDeliver : Sight → (ℕ → Bool) → ℕ → Delivery → Option Content → Decision
+decideDeliver s active last d content =
+    refuseIf (isFaulty (s .condition)) ReceiverFaulty
+    (refuseIf (not (isSome content)) NotIssued
+    (decideReceive s active last d content))

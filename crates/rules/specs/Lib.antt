@@ -4,10 +4,12 @@ pub mod Table
 pub mod Room
 pub mod Reading
 pub mod Clock
+pub mod Sight
 pub mod Outcome
 pub mod Submit
 pub mod Deliver
 pub mod Switching
+pub mod Decide
 pub mod Play
 pub mod laws
 pub mod agreement

@@ -6,25 +6,15 @@ use lib.ListN.{take}
 use Rattle.terms.specs.Lists.{nth}
 use Rattle.terms.specs.Kit.{Kit, Entry}
 use Rattle.terms.specs.declared.Event.{Event}
-use Rattle.terms.specs.declared.Event.the-variants.{Submit, Issue, Deliver, Hand, Panic, Idle, Build, File}
 use Rattle.terms.specs.declared.Answer.{Answer}
 use Rattle.rules.specs.Room.{Room, freshRoom}
 use Rattle.rules.specs.Clock.{tick}
-use Rattle.rules.specs.Outcome.{Outcome, taken}
-use Rattle.rules.specs.Submit.{onSubmit, onIssue, onFile}
-use Rattle.rules.specs.Deliver.{onDeliver}
-use Rattle.rules.specs.Switching.{onPanic, onBuild, onHand}
+use Rattle.rules.specs.Outcome.{Outcome}
+use Rattle.rules.specs.Decide.{concerned, decide, done}
 
--- the event itself; the requests are those of a filed history
+-- the event itself: what is decided of it is done; the requests are those of a filed history
 unfoldable pub onEvent : Kit → Room → Event → List ℕ → Outcome
-onEvent kit r (Submit request) list = onSubmit kit r request
-onEvent kit r (Issue replica name content) list = onIssue r replica name content
-onEvent kit r (Deliver sender name value to) list = onDeliver kit r sender name value to
-onEvent kit r (Hand p q to) list = onHand kit r p q to
-onEvent kit r (Panic to) list = onPanic r to
-onEvent kit r Idle list = taken r
-onEvent kit r Build list = onBuild kit r
-onEvent kit r (File j k) list = onFile r j k list
+onEvent kit r e list = done kit r (concerned kit e) list (decide kit r e)
 
 -- the clock first, then the event
 unfoldable pub step : Kit → Room → Entry → Outcome

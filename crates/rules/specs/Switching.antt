@@ -1,29 +1,38 @@
 -- The way to the fall-back: PANIC reaches a replica (kind 5), the switch leader builds its history (kind 7), which is handed to the others
--- (kind 4). Assumes nothing.
+-- (kind 4). Of each, what is decided and what is then done. Assumes nothing.
 use mathlib.Core.Bool.{Bool, false, not, _&&_, _||_}
 use mathlib.Core.Option.{Option, none, some}
 use mathlib.Core.List.{List, [], _∷_, _++_}
 use Prim.Native.Nat.{ℕ, suc}
 use lib.ListN.{length, take}
 use lib.Dec.{eqb}
-use Rattle.terms.specs.Lists.{pick, nth, holds, distinct, allOf, allBelow, isSome}
+use Rattle.terms.specs.Lists.{pick, holds, distinct, allOf, allBelow, isSome}
 use Rattle.terms.specs.Mark.{markOf}
 use Rattle.terms.specs.Kit.{Kit}
+use Rattle.terms.specs.declared.Content.{Content}
 use Rattle.terms.specs.declared.Content.the-variants.{Prepare, Commit, Update, History, Switch}
+use Rattle.terms.specs.declared.Condition.{Condition}
 use Rattle.terms.specs.declared.Condition.the-variants.{Halted}
 use Rattle.terms.specs.declared.Answer.the-variants.{NotIssued, ReceiverFaulty, TooLate, TooEarly, WrongRoles, NotValid, CannotBuild}
+use Rattle.terms.specs.declared.Act.the-variants as Act
+use Rattle.terms.specs.declared.Decision.{Decision}
+use Rattle.terms.specs.declared.Decision.the-variants as Decision
 use Rattle.rules.specs.Table.{ag, up, sw, actives, switchLeader}
 use Rattle.rules.specs.Room.{Filing, Room, withReplica, withCondition, withHistory, hold, issue}
-use Rattle.rules.specs.Reading.{isRunning, isClosed, isFaulty, entryAt, contentAt, isContent, firstOf, settledCount, agTotal}
-use Rattle.rules.specs.Outcome.{Outcome, refuse, taken}
+use Rattle.rules.specs.Reading.{isRunning, isClosed, isFaulty, entryAt, contentAt, isContent, firstOf, agTotal, settledCount}
+use Rattle.rules.specs.Outcome.{refuseIf}
 
 -- ---- kind 5: a running correct replica halts
 
-unfoldable pub onPanic : Room → ℕ → Outcome
-onPanic r to =
-    refuse (isFaulty (r .replica to .condition)) ReceiverFaulty r
-    (refuse (not (isRunning (r .replica to .condition))) TooLate r
-    (taken (withReplica r to (withCondition (r .replica to) Halted))))
+-- by the receiver's condition
+unfoldable pub decidePanic : Condition → Decision
+decidePanic condition =
+    refuseIf (isFaulty condition) ReceiverFaulty
+    (refuseIf (not (isRunning condition)) TooLate
+    (Decision.Act Act.Panic))
+
+unfoldable pub afterPanic : Room → ℕ → Room
+afterPanic r to = withReplica r to (withCondition (r .replica to) Halted)
 
 -- ---- kind 7: build
 
@@ -32,26 +41,26 @@ abbrev pub missing : List ℕ → List ℕ → List ℕ
 missing noted [] = []
 missing noted (q ∷ qs) = pick (holds q noted) (missing noted qs) (q ∷ missing noted qs)
 
--- k is the switch leader's ag total, j its settled count; the list is its noted requests, then the submitted ones not noted
+-- the noted requests of switch leader s, then the submitted ones not noted
+unfoldable pub builtList : Room → ℕ → List ℕ
+builtList r s = r .replica s .noted ++ missing (r .replica s .noted) (r .submitted)
+
+-- k is its ag total, j its settled count
 unfoldable pub built : Kit → Room → Filing
 built kit r =
     let s = switchLeader kit in
-    let p = r .replica s in
-    let own = agTotal r s in
-    record { j = settledCount kit s p own; k = own; list = p .noted ++ missing (p .noted) (r .submitted) }
+    record { j = settledCount kit s (r .replica s) (agTotal r s); k = agTotal r s; list = builtList r s }
 
--- it is filed, HISTORY issued on ag and up, held, SWITCH issued on sw
-unfoldable pub afterBuild : Kit → Room → Room
-afterBuild kit r =
-    let s = switchLeader kit in
+-- by its condition and the history that it holds
+unfoldable pub decideBuild : Condition → Option ℕ → ℕ → ℕ → Decision
+decideBuild condition held j k = refuseIf (isFaulty condition || (isRunning condition || isSome held)) CannotBuild (Decision.Build j k)
+
+-- the history is filed, HISTORY issued on ag and up, held, SWITCH issued on sw
+unfoldable pub afterBuild : Room → ℕ → Filing → Room
+afterBuild r s filing =
     let h = length (r .histories) in
     let p = r .replica s in
-    issue (issue (issue (withReplica (withHistory r (built kit r) (r .filed)) s (hold p h)) s ag (History h)) s up (History h)) s sw (Switch h)
-
-unfoldable pub onBuild : Kit → Room → Outcome
-onBuild kit r =
-    let p = r .replica (switchLeader kit) in
-    refuse (isFaulty (p .condition) || (isRunning (p .condition) || isSome (p .held))) CannotBuild r (taken (afterBuild kit r))
+    issue (issue (issue (withReplica (withHistory r filing (r .filed)) s (hold p h)) s ag (History h)) s up (History h)) s sw (Switch h)
 
 -- ---- kind 4: hand
 
@@ -86,19 +95,32 @@ abbrev pub isValidFiling : Kit → Room → ℕ → ℕ → ℕ → Option Filin
 isValidFiling kit r p q h none = false
 isValidFiling kit r p q h (some filing) = isValid kit r p q h filing
 
+-- once both certificates are known to be issued, the one on ag of history h: by the receiver's condition, the history that it holds, and whether h
+-- is valid
+unfoldable pub decideHold : Condition → Option ℕ → Bool → ℕ → ℕ → ℕ → Decision
+decideHold condition held valid switcher to h =
+    refuseIf (isSome held || isClosed condition) TooLate
+    (refuseIf (isRunning condition) TooEarly
+    (refuseIf (eqb to switcher) WrongRoles
+    (refuseIf (not valid) NotValid
+    (Decision.Act (Act.Hand h)))))
+
+-- the switch leader, the receiver, what the switch leader's ag value and up value are bound to, if they were issued, and which histories are valid at them
+pub record Handing : Type 0 where
+  pub switcher : ℕ
+  pub to : ℕ
+  pub first : Option Content
+  pub second : Option Content
+  pub valid : ℕ → Bool
+
+-- by the receiver's condition and the history that it holds
+unfoldable pub decideHand : Condition → Option ℕ → Handing → Decision
+decideHand condition held d =
+    let h = firstOf (d .first) in
+    refuseIf (isFaulty condition) ReceiverFaulty
+    (refuseIf (not (isSome (d .first) && isSome (d .second))) NotIssued
+    (decideHold condition held (d .valid h) (d .switcher) (d .to) h))
+
 -- the receiver holds h and issues SWITCH of it on sw
 unfoldable pub afterHand : Room → ℕ → ℕ → Room
 afterHand r to h = issue (withReplica r to (hold (r .replica to) h)) to sw (Switch h)
-
-unfoldable pub onHand : Kit → Room → ℕ → ℕ → ℕ → Outcome
-onHand kit r p q to =
-    let s = switchLeader kit in
-    let receiver = r .replica to in
-    let h = firstOf (contentAt (r .counter s ag) p) in
-    refuse (isFaulty (r .replica to .condition)) ReceiverFaulty r
-    (refuse (not (isSome (contentAt (r .counter s ag) p) && isSome (contentAt (r .counter s up) q))) NotIssued r
-    (refuse (isSome (receiver .held) || isClosed (receiver .condition)) TooLate r
-    (refuse (isRunning (receiver .condition)) TooEarly r
-    (refuse (eqb to s) WrongRoles r
-    (refuse (not (isValidFiling kit r p q h (nth (r .histories) h))) NotValid r
-    (taken (afterHand r to h)))))))

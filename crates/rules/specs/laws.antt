@@ -9,6 +9,7 @@
 -- what it changes (Own), so that two may come in either order (Order), and a kit with two of its deliveries exchanged (Exchange, with ExchangeRows by
 -- computation). Assumes nothing.
 pub mod RoomLaws
+pub mod Tested
 pub mod Growth
 pub mod TableLaws
 pub mod ReadingLaws

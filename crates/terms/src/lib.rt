@@ -161,6 +161,41 @@ pub enum Answer {
     CannotBuild,
 }
 
+// What an event comes to, once it is decided: a refusal, or what is to be done. The replica concerned is known beside it.
+pub enum Decision {
+    // The event is refused.
+    Refuse(Answer),
+    // The request is remembered; the leader, if it runs, prepares it.
+    Submit(u32),
+    // A faulty replica issues on its counter of this name.
+    Issue(usize, usize, Content),
+    // The replica concerned acts.
+    Act(Act),
+    Idle,
+    // j and k of the history that the switch leader builds.
+    Build(usize, usize),
+    // j and k of the history that is filed.
+    File(u32, u32),
+}
+
+// What a replica does at what has reached it: its own record changes, and it may issue on its own counters; nothing else of the room is touched.
+pub enum Act {
+    // Sender, value, request: it notes and commits the request.
+    Prepare(usize, u32, u32),
+    // Sender, value: it accepts a COMMIT.
+    Commit(usize, u32),
+    // Sender, value: it accepts an UPDATE of a pair that it has noted.
+    KnownPair(usize, u32),
+    // Sender, value, request, mark: it notes the pair.
+    NewPair(usize, u32, u32, u32),
+    // Sender, value: it accepts a SWITCH.
+    Switch(usize, u32),
+    // It holds this history.
+    Hand(u32),
+    // It halts.
+    Panic,
+}
+
 // The content of a kind, a and b: kinds are 1 to 5, and a b that the kind does not use is 0.
 pub fn content_of(kind: u32, a: u32, b: u32) -> ContentChoice
     ensures { λ r. ⌜ r ≡ contentOf kind a b ⌝ }

@@ -1,11 +1,12 @@
 -- `build` meets its contract. Assumes nothing.
 use borrow.Author.Needs.{needs}
-use Rattle.decide.specs.Decided.{decideBuildOn}
+use Rattle.rules.specs.Outcome.{refuseIf}
+use Rattle.rules.specs.Switching.{decideBuild}
 use Rattle.decide.proofs.build.Statement.{statement}
 use Rattle.decide.proofs.build.Tie as tie
 
 pub build-spec : {M : Type 1} → statement M
-unfolding decideBuildOn
+unfolding decideBuild refuseIf
 build-spec =
     tie.close
     (tie.spec

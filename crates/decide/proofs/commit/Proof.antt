@@ -1,11 +1,12 @@
 -- `commit` meets its contract. Assumes nothing.
 use borrow.Author.Needs.{needs}
-use Rattle.decide.specs.Decided.{decideCommitOn}
+use Rattle.rules.specs.Outcome.{refuseIf}
+use Rattle.rules.specs.Deliver.{decideCommit}
 use Rattle.decide.proofs.commit.Statement.{statement}
 use Rattle.decide.proofs.commit.Tie as tie
 
 pub commit-spec : {M : Type 1} → statement M
-unfolding decideCommitOn
+unfolding decideCommit refuseIf
 commit-spec =
     tie.close
     (tie.spec

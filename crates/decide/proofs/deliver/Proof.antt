@@ -1,11 +1,12 @@
 -- `deliver` meets its contract. Assumes nothing.
 use borrow.Author.Needs.{needs}
-use Rattle.decide.specs.Decided.{decideDeliverOn}
+use Rattle.rules.specs.Outcome.{refuseIf}
+use Rattle.rules.specs.Deliver.{decideDeliver}
 use Rattle.decide.proofs.deliver.Statement.{statement}
 use Rattle.decide.proofs.deliver.Tie as tie
 
 pub deliver-spec : {M : Type 1} → statement M
-unfolding decideDeliverOn
+unfolding decideDeliver refuseIf
 deliver-spec =
     tie.close
     (tie.spec

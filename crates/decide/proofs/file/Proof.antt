@@ -1,11 +1,12 @@
 -- `file` meets its contract. Assumes nothing.
 use borrow.Author.Tests.{le-leb, lt-leb}
-use Rattle.decide.specs.Decided.{decideFileOn}
+use Rattle.rules.specs.Outcome.{refuseIf}
+use Rattle.rules.specs.Submit.{decideFile}
 use Rattle.decide.proofs.file.Statement.{statement}
 use Rattle.decide.proofs.file.Tie as tie
 
 pub file-spec : {M : Type 1} → statement M
-unfolding decideFileOn
+unfolding decideFile refuseIf
 file-spec =
     tie.close
     (tie.spec

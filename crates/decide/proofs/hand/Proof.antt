@@ -1,11 +1,12 @@
 -- `hand` meets its contract. Assumes nothing.
 use borrow.Author.Needs.{needs}
-use Rattle.decide.specs.Decided.{decideHandOn}
+use Rattle.rules.specs.Outcome.{refuseIf}
+use Rattle.rules.specs.Switching.{decideHand}
 use Rattle.decide.proofs.hand.Statement.{statement}
 use Rattle.decide.proofs.hand.Tie as tie
 
 pub hand-spec : {M : Type 1} → statement M
-unfolding decideHandOn
+unfolding decideHand refuseIf
 hand-spec =
     tie.close
     (tie.spec

@@ -3,7 +3,7 @@ use mathlib.Core.Path.{_≡_, refl}
 use mathlib.Core.Bool.{Bool, true, false, not}
 use borrow.Author.Tests.{eq-eqb, ne-eqb}
 use borrow.Author.Needs.{needs}
-use Rattle.decide.specs.Decided.{hasWrongRolesIn}
+use Rattle.rules.specs.Deliver.{hasWrongRoles}
 use Rattle.decide.proofs.has_wrong_roles.Statement.{statement}
 use Rattle.decide.proofs.has_wrong_roles.Tie as tie
 
@@ -13,7 +13,7 @@ not-not true = refl
 not-not false = refl
 
 pub has-wrong-roles-spec : {M : Type 1} → statement M
-unfolding hasWrongRolesIn
+unfolding hasWrongRoles
 has-wrong-roles-spec =
     tie.close
     (tie.spec

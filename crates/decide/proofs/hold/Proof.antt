@@ -1,12 +1,13 @@
 -- `hold` meets its contract. Assumes nothing.
 use borrow.Author.Tests.{eq-eqb, ne-eqb}
 use borrow.Author.Needs.{needs}
-use Rattle.decide.specs.Decided.{decideHoldOn}
+use Rattle.rules.specs.Outcome.{refuseIf}
+use Rattle.rules.specs.Switching.{decideHold}
 use Rattle.decide.proofs.hold.Statement.{statement}
 use Rattle.decide.proofs.hold.Tie as tie
 
 pub hold-spec : {M : Type 1} → statement M
-unfolding decideHoldOn
+unfolding decideHold refuseIf
 hold-spec =
     tie.close
     (tie.spec

@@ -1,11 +1,9 @@
 -- `is_new` meets its contract. Assumes nothing.
 use borrow.Author.Needs.{needs}
-use Rattle.decide.specs.Decided.{isNewIn}
 use Rattle.decide.proofs.is_new.Statement.{statement}
 use Rattle.decide.proofs.is_new.Tie as tie
 
 pub is-new-spec : {M : Type 1} → statement M
-unfolding isNewIn
 is-new-spec =
     tie.close
     (tie.spec

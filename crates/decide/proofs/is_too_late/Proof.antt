@@ -1,12 +1,12 @@
 -- `is_too_late` meets its contract. Assumes nothing.
 use borrow.Author.Tests.{eq-eqb, ne-eqb}
 use borrow.Author.Needs.{needs}
-use Rattle.decide.specs.Decided.{isTooLateIn}
+use Rattle.rules.specs.Deliver.{isTooLate}
 use Rattle.decide.proofs.is_too_late.Statement.{statement}
 use Rattle.decide.proofs.is_too_late.Tie as tie
 
 pub is-too-late-spec : {M : Type 1} → statement M
-unfolding isTooLateIn
+unfolding isTooLate
 is-too-late-spec =
     tie.close
     (tie.spec

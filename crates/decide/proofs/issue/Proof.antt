@@ -1,12 +1,13 @@
 -- `issue` meets its contract. Assumes nothing.
 use borrow.Author.Tests.{le-leb, lt-leb}
 use borrow.Author.Needs.{needs}
-use Rattle.decide.specs.Decided.{decideIssueOn}
+use Rattle.rules.specs.Outcome.{refuseIf}
+use Rattle.rules.specs.Submit.{decideIssue}
 use Rattle.decide.proofs.issue.Statement.{statement}
 use Rattle.decide.proofs.issue.Tie as tie
 
 pub issue-spec : {M : Type 1} → statement M
-unfolding decideIssueOn
+unfolding decideIssue refuseIf
 issue-spec =
     tie.close
     (tie.spec

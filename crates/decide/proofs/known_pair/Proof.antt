@@ -1,11 +1,12 @@
 -- `known_pair` meets its contract. Assumes nothing.
 use borrow.Author.Needs.{needs}
-use Rattle.decide.specs.Decided.{decidePairOn}
+use Rattle.rules.specs.Outcome.{refuseIf}
+use Rattle.rules.specs.Deliver.{decidePair}
 use Rattle.decide.proofs.known_pair.Statement.{statement}
 use Rattle.decide.proofs.known_pair.Tie as tie
 
 pub known-pair-spec : {M : Type 1} → statement M
-unfolding decidePairOn
+unfolding decidePair refuseIf
 known-pair-spec =
     tie.close
     (tie.spec

@@ -1,11 +1,12 @@
 -- `new_pair` meets its contract. Assumes nothing.
 use borrow.Author.Needs.{needs}
-use Rattle.decide.specs.Decided.{decideUpdateOn}
+use Rattle.rules.specs.Outcome.{refuseIf}
+use Rattle.rules.specs.Deliver.{decideUpdate}
 use Rattle.decide.proofs.new_pair.Statement.{statement}
 use Rattle.decide.proofs.new_pair.Tie as tie
 
 pub new-pair-spec : {M : Type 1} → statement M
-unfolding decideUpdateOn
+unfolding decideUpdate refuseIf
 new-pair-spec =
     tie.close
     (tie.spec

@@ -1,12 +1,12 @@
 -- `on_content` meets its contract. Assumes nothing.
 use borrow.Author.Tests.{eq-eqb, ne-eqb}
 use borrow.Author.Needs.{needs}
-use Rattle.decide.specs.Decided.{decideContentOn}
+use Rattle.rules.specs.Deliver.{decideAg, decideUp, decideContent}
 use Rattle.decide.proofs.on_content.Statement.{statement}
 use Rattle.decide.proofs.on_content.Tie as tie
 
 pub on-content-spec : {M : Type 1} → statement M
-unfolding decideContentOn
+unfolding decideContent decideAg decideUp
 on-content-spec =
     tie.close
     (tie.spec

@@ -1,11 +1,12 @@
 -- `panic` meets its contract. Assumes nothing.
 use borrow.Author.Needs.{needs}
-use Rattle.decide.specs.Decided.{decidePanicOn}
+use Rattle.rules.specs.Outcome.{refuseIf}
+use Rattle.rules.specs.Switching.{decidePanic}
 use Rattle.decide.proofs.panic.Statement.{statement}
 use Rattle.decide.proofs.panic.Tie as tie
 
 pub panic-spec : {M : Type 1} → statement M
-unfolding decidePanicOn
+unfolding decidePanic refuseIf
 panic-spec =
     tie.close
     (tie.spec

@@ -1,11 +1,12 @@
 -- `prepare` meets its contract. Assumes nothing.
 use borrow.Author.Needs.{needs}
-use Rattle.decide.specs.Decided.{decidePrepareOn}
+use Rattle.rules.specs.Outcome.{refuseIf}
+use Rattle.rules.specs.Deliver.{decidePrepare}
 use Rattle.decide.proofs.prepare.Statement.{statement}
 use Rattle.decide.proofs.prepare.Tie as tie
 
 pub prepare-spec : {M : Type 1} → statement M
-unfolding decidePrepareOn
+unfolding decidePrepare refuseIf
 prepare-spec =
     tie.close
     (tie.spec

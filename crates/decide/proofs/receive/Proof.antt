@@ -1,11 +1,12 @@
 -- `receive` meets its contract. Assumes nothing.
 use borrow.Author.Needs.{needs}
-use Rattle.decide.specs.Decided.{decideReceiveOn}
+use Rattle.rules.specs.Outcome.{refuseIf}
+use Rattle.rules.specs.Deliver.{decideReceive}
 use Rattle.decide.proofs.receive.Statement.{statement}
 use Rattle.decide.proofs.receive.Tie as tie
 
 pub receive-spec : {M : Type 1} → statement M
-unfolding decideReceiveOn
+unfolding decideReceive refuseIf
 receive-spec =
     tie.close
     (tie.spec

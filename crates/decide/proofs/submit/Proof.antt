@@ -1,12 +1,13 @@
 -- `submit` meets its contract. Assumes nothing.
 use borrow.Author.Tests.{le-leb, lt-leb}
 use borrow.Author.Needs.{needs}
-use Rattle.decide.specs.Decided.{decideSubmitOn}
+use Rattle.rules.specs.Outcome.{refuseIf}
+use Rattle.rules.specs.Submit.{decideSubmit}
 use Rattle.decide.proofs.submit.Statement.{statement}
 use Rattle.decide.proofs.submit.Tie as tie
 
 pub submit-spec : {M : Type 1} → statement M
-unfolding decideSubmitOn
+unfolding decideSubmit refuseIf
 submit-spec =
     tie.close
     (tie.spec

@@ -1,11 +1,12 @@
 -- `switch` meets its contract. Assumes nothing.
 use borrow.Author.Needs.{needs}
-use Rattle.decide.specs.Decided.{decideSwitchOn}
+use Rattle.rules.specs.Outcome.{refuseIf}
+use Rattle.rules.specs.Deliver.{decideSw}
 use Rattle.decide.proofs.switch.Statement.{statement}
 use Rattle.decide.proofs.switch.Tie as tie
 
 pub switch-spec : {M : Type 1} → statement M
-unfolding decideSwitchOn
+unfolding decideSw refuseIf
 switch-spec =
     tie.close
     (tie.spec

@@ -50,8 +50,8 @@ use Rattle.carry_out.specs.Apply.{Applied, applied, applyOn}
 use Rattle.replica.specs.declared.Replica.{Replica}
 use Rattle.replica.specs.Record.{freshRecord}
 use Rattle.in_place.proofs.Lent.{R, Rs, Kept, one-out, one-in, all-seven}
-use Rattle.room.proofs.Decision as D
-use Rattle.room.proofs.Decision.Laws as D′
+use Rattle.terms.proofs.Decision as D
+use Rattle.terms.proofs.Decision.Laws as D′
 use Rattle.room.proofs.Desk as K
 use Rattle.room.proofs.Desk.Laws as K′
 use Rattle.room.proofs.Roles as O

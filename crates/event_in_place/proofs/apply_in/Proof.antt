@@ -45,8 +45,8 @@ use Rattle.replica.specs.declared.Replica.{Replica}
 use Rattle.in_place.proofs.Lent.{R, vals}
 use Rattle.replica.proofs.Replica as T
 use Rattle.replica.proofs.Replica.Laws as T′
-use Rattle.room.proofs.Decision as D
-use Rattle.room.proofs.Decision.Laws as D′
+use Rattle.terms.proofs.Decision as D
+use Rattle.terms.proofs.Decision.Laws as D′
 use Rattle.room.proofs.Desk as K
 use Rattle.room.proofs.Desk.Laws as K′
 use Rattle.room.proofs.Roles as O

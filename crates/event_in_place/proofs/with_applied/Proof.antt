@@ -44,8 +44,8 @@ use Rattle.carry_out.specs.Apply.{Applied, applyOn}
 use Rattle.replica.specs.declared.Replica.{Replica}
 use Rattle.replica.proofs.Replica.Laws as T′
 use Rattle.in_place.proofs.Lent.{Rs, vals-all, val-all, tells-all, makes-all, lawful-all, lies-all, lain-all}
-use Rattle.room.proofs.Decision as D
-use Rattle.room.proofs.Decision.Laws as D′
+use Rattle.terms.proofs.Decision as D
+use Rattle.terms.proofs.Decision.Laws as D′
 use Rattle.room.proofs.Desk as K
 use Rattle.room.proofs.Desk.Laws as K′
 use Rattle.room.proofs.Roles as O

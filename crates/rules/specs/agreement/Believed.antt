@@ -25,8 +25,9 @@ use Rattle.rules.specs.Room.{Room, Replica, Filing, freshRoom, freshRepl
 use Rattle.rules.specs.laws.RoomLaws.{replica-same}
 use Rattle.rules.specs.Reading.{isRunning, isFaulty, contentAt, firstOf}
 use Rattle.rules.specs.Clock.{tick}
-use Rattle.rules.specs.Outcome.{Outcome, refuse, taken}
-use Rattle.rules.specs.Switching.{onPanic, isValid, isValidFiling, afterHand, onHand}
+use Rattle.rules.specs.Outcome.{Outcome, refuseIf, taken}
+use Rattle.rules.specs.Switching.{decidePanic, afterPanic, isValid, isValidFiling, decideHold, decideHand, afterHand}
+use Rattle.rules.specs.Decide.{concerned, decide, acted, carryOut}
 use Rattle.rules.specs.Play.{onEvent, step, play, after, answer}
 use Rattle.rules.specs.laws.Growth.{Grows, grows-refl, grows-trans, tick-grows, step-grows, after-grows}
 use Rattle.rules.specs.laws.Holding.{after-keeps}
@@ -109,9 +110,10 @@ one-place held issued w zero i h e d = no-way (cc e)
 one-place held issued w (suc n) i h e d = omega (arith, w n h e .0, w i h d .0)
 
 -- the room in which a running replica has taken a PANIC
-panic-halts : (r : Room) (to : ℕ) → r .replica to .condition ≡ Running → onPanic r to .room ≡ withReplica r to (withCondition (r .replica to) Halted)
-unfolding onPanic refuse
-panic-halts r to e = rw e
+panic-halts : (kit : Kit) (r : Room) (to : ℕ) (list : List ℕ) → r .replica to .condition ≡ Running
+    → onEvent kit r (Panic to) list .room ≡ withReplica r to (withCondition (r .replica to) Halted)
+unfolding onEvent concerned decide decidePanic refuseIf carryOut acted afterPanic withCondition
+panic-halts kit r to list e = rw e
 
 module _ (kit : Kit) (good : GoodKit kit) {m number : ℕ} {filing : Filing} (b : BuiltAt kit m number filing) where
   invariant-then : Invariant kit (found b)
@@ -152,13 +154,13 @@ module _ (kit : Kit) (good : GoodKit kit) {m number : ℕ} {filing : Filing} (b 
     -- in any room that has grown from this one
     hand-step : {r : Room} (p q to gap : ℕ) (list : List ℕ) → Grows (after kit n) r → OwnValues kit (after kit n) number p q
         → Receiver kit r to → step kit r (handing gap p q to list) ≡ taken (afterHand (tick kit r gap) to number)
-    unfolding step onEvent
+    unfolding step
     hand-step {r} p q to gap list g own w =
         let t = tick-ticked kit r gap in
         let g₁ = grows-trans g (tick-grows kit r gap) in
         rw (only-on-ag p (own .0), only-on-up q (own .1))
         (sound-hands kit (sound-grows kit g₁ sound-now) (g₁ .filings _ _ filed-now) to (w .not-builder) (rw (t .replica) (w .is-halted))
-        (rw (t .replica) (w .holds-none)))
+        (rw (t .replica) (w .holds-none)) list)
 
     -- the hand of another history, or with another value, fails its test
     module _ {r : Room} (grows : Grows (after kit n) r) (a : Invariant kit r) (p q h : ℕ) where
@@ -177,7 +179,7 @@ module _ (kit : Kit) (good : GoodKit kit) {m number : ℕ} {filing : Filing} (b 
 
     other-step : (p q : ℕ) → IssuedAt kit (after kit n) ag p → IssuedAt kit (after kit n) up q → (p ≡ suc (filing .k) → q ≡ suc (filing .j) → ⊥)
         → (to : ℕ) → Receiver kit (after kit n) to → (gap : ℕ) (list : List ℕ) → step kit (after kit n) (handing gap p q to list) .answer ≡ NotValid
-    unfolding step onEvent onHand refuse
+    unfolding step onEvent concerned decide decideHand decideHold refuseIf
     other-step p q ip iq other to w gap list =
         let r = tick kit (after kit n) gap in
         let t = tick-ticked kit (after kit n) gap in
@@ -194,12 +196,12 @@ module _ (kit : Kit) (good : GoodKit kit) {m number : ℕ} {filing : Filing} (b 
     -- the room in which a PANIC has reached a running one
     panicked : (to gap : ℕ) (list : List ℕ) → to ≢ switchLeader kit → after kit n .replica to .condition ≡ Running
         → Receiver kit (step kit (after kit n) (panicking gap to list) .room) to
-    unfolding step onEvent withCondition
+    unfolding step withCondition
     panicked to gap list other runs =
         let r = tick kit (after kit n) gap in
         let same = tick-ticked kit (after kit n) gap .replica in
         let run : r .replica to .condition ≡ Running = rw same runs in
-        let now = ap (λ (z : Room). z .replica to) (panic-halts r to run) ∙ replica-same r to (withCondition (r .replica to) Halted) in
+        let now = ap (λ (z : Room). z .replica to) (panic-halts kit r to list run) ∙ replica-same r to (withCondition (r .replica to) Halted) in
         let correct : Correct kit to = sym (at-moment kit good n .faulty-marked to) ∙ ap isFaulty runs in
         record {
           not-builder = other;

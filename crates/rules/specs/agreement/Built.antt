@@ -1,7 +1,6 @@
 -- Event 7 in a kit's play: what it left when it was taken, that it is taken at most once, and that a switch leader holds what it built by it and
 -- nothing else. Moments and places of events are counted from 0. Assumes nothing.
 use mathlib.Core.Path.{_≡_, refl, sym, ap, _∙_}
-use mathlib.Core.Bool.{Bool, true, false, _||_}
 use mathlib.Core.Logic.{⊎-elim}
 use mathlib.Core.Option.{Option, none, some}
 use mathlib.Core.List.{List}
@@ -9,26 +8,28 @@ use Prim.Native.Nat.{ℕ, zero, suc, _<_}
 use native.Mathlib.Omega.{arith}
 use lib.ListN.{length}
 use lib.Seq.{take-all}
-use borrow.Author.Tests.{eqb-false}
-use Rattle.terms.specs.Lists.{nth, isSome}
-use Rattle.terms.specs.ListLaws.{split, no-way, tri, nth-none, nth-snoc, or-l, or-r}
+use Rattle.terms.specs.Lists.{nth}
+use Rattle.terms.specs.ListLaws.{no-way, tri, nth-none, nth-snoc}
 use Rattle.terms.specs.Kit.{Kit, Entry}
 use Rattle.terms.specs.declared.Event.{Event}
-use Rattle.terms.specs.declared.Event.the-variants.{Submit, Issue, Deliver, Hand, Panic, Idle, Build, File}
-use Rattle.terms.specs.declared.Answer.{Answer}
+use Rattle.terms.specs.declared.Event.the-variants.{Build}
+use Rattle.terms.specs.declared.Act.{Act}
+use Rattle.terms.specs.declared.Act.the-variants as Act
+use Rattle.terms.specs.declared.Decision.{Decision}
+use Rattle.terms.specs.declared.Decision.the-variants as Decision
 use Rattle.terms.specs.declared.Answer.the-variants.{Taken}
 use Rattle.rules.specs.Table.{switchLeader}
 use Rattle.rules.specs.Room.{Room, Replica, Filing, freshRoom, freshReplica, withReplica, withHistory, issue}
 use Rattle.rules.specs.laws.RoomLaws.{replica-other}
-use Rattle.rules.specs.Reading.{isRunning, isFaulty}
 use Rattle.rules.specs.Clock.{tick}
-use Rattle.rules.specs.Outcome.{Outcome, refuse}
-use Rattle.rules.specs.Submit.{onFile}
-use Rattle.rules.specs.Switching.{built, afterBuild, onBuild, afterHand, onHand}
+use Rattle.rules.specs.Submit.{afterFile}
+use Rattle.rules.specs.Switching.{built, afterBuild, afterHand}
+use Rattle.rules.specs.Decide.{concerned, decide, acted, carryOut}
 use Rattle.rules.specs.Play.{onEvent, step, play, after, answer}
 use Rattle.rules.specs.laws.Growth.{after-suc}
-use Rattle.rules.specs.laws.Holding.{calm-submit, calm-deliver, calm-panic, calm-faulty-issue, none-of, step-keeps}
-use Rattle.rules.specs.laws.Filings.{built-held, build-once}
+use Rattle.rules.specs.laws.Holding.{calm-submit, calm-acted, calm-faulty-issue, step-keeps}
+use Rattle.rules.specs.laws.Filings.{built-held, CanBuild, taken-can, build-once}
+use Rattle.rules.specs.laws.Tested.{ToAct, Tested, tested}
 use Rattle.rules.specs.laws.Refused.{tick-ticked}
 
 -- an event 7; in a good kit its list is empty
@@ -66,40 +67,23 @@ one-build kit m n g h a b one two =
 -- ---- what it found and what it left
 
 module _ (kit : Kit) (r : Room) where
-  pub built-filed : nth (afterBuild kit r .histories) (length (r .histories)) ≡ some (built kit r)
+  pub built-filed : nth (afterBuild r (switchLeader kit) (built kit r) .histories) (length (r .histories)) ≡ some (built kit r)
   unfolding afterBuild issue withReplica withHistory
   built-filed = nth-snoc (r .histories) (built kit r)
-
-  -- a room in which event 7 is taken
-  pub record CanBuild : Type 0 where
-    pub correct : isFaulty (r .replica (switchLeader kit) .condition) ≡ false
-    pub free : r .replica (switchLeader kit) .held ≡ none
-    pub leaves : onBuild kit r .room ≡ afterBuild kit r
-
-  taken-can : onBuild kit r .answer ≡ Taken → CanBuild
-  unfolding onBuild refuse
-  taken-can e =
-      let p = r .replica (switchLeader kit) in
-      let rest = isRunning (p .condition) || isSome (p .held) in
-      split (isFaulty (p .condition) || rest)
-      (λ t. no-way (cc (rw t at e)))
-      (λ t. record {
-        correct = or-l (isFaulty (p .condition)) rest t;
-        free = none-of (p .held) (or-r (isRunning (p .condition)) (isSome (p .held)) (or-r (isFaulty (p .condition)) rest t));
-        leaves = rw t;
-      })
 
 -- in a play
 module _ {kit : Kit} {m number : ℕ} {filing : Filing} (b : BuiltAt kit m number filing) where
   abbrev pub found : Room
   found = tick kit (after kit m) (b .gap)
 
-  pub could-build : CanBuild kit found
-  unfolding answer step onEvent
-  could-build = let z : some (onBuild kit found .answer) ≡ some Taken = rw (b .is-event) at (b .was-taken) in taken-can kit found (cc z)
+  pub could-build : CanBuild kit found (b .list)
+  unfolding answer step
+  could-build =
+      let z : some (onEvent kit found Build (b .list) .answer) ≡ some Taken = rw (b .is-event) at (b .was-taken) in
+      taken-can kit found (b .list) (cc z)
 
-  pub left : after kit (suc m) ≡ afterBuild kit found
-  unfolding step onEvent
+  pub left : after kit (suc m) ≡ afterBuild found (switchLeader kit) (built kit found)
+  unfolding step
   left = after-suc kit m (building (b .gap) (b .list)) (b .is-event) ∙ could-build .leaves
 
   pub found-number : length (found .histories) ≡ number
@@ -114,22 +98,16 @@ module _ (kit : Kit) where
   abbrev holding : Room → Option ℕ
   holding r = r .replica (switchLeader kit) .held
 
-  holding-refuse : (r : Room) (t : Bool) (a : Answer) (o : Outcome) → (t ≡ false → holding (o .room) ≡ holding r) → holding (refuse t a r o .room) ≡ holding r
-  unfolding refuse
-  holding-refuse r true a o f = refl
-  holding-refuse r false a o f = f refl
-
-  -- it is handed nothing
-  holding-hand : (r : Room) (p q to : ℕ) → holding (onHand kit r p q to .room) ≡ holding r
-  unfolding onHand afterHand issue
-  holding-hand r p q to =
-      holding-refuse r _ _ _ λ e₁. holding-refuse r _ _ _ λ e₂. holding-refuse r _ _ _ λ e₃. holding-refuse r _ _ _ λ e₄. holding-refuse r _ _ _ λ e₅.
-      holding-refuse r _ _ _ λ e₆.
-      ap (λ (p : Replica). p .held) (replica-other r to _ (switchLeader kit) (λ z. eqb-false to (switchLeader kit) e₅ (sym z)))
-
-  holding-file : (r : Room) (j k : ℕ) (list : List ℕ) → holding (onFile r j k list .room) ≡ holding r
-  unfolding onFile withHistory
-  holding-file r j k list = holding-refuse r _ _ _ λ e. refl
+  -- whatever is done but a build leaves what it holds
+  holding-acted : (r : Room) (e : Event) (x : ℕ) (act : Act) → ToAct kit r e x act → holding (acted kit r x act) ≡ holding r
+  unfolding acted afterHand issue
+  holding-acted r e x (Act.Prepare s v q) t = calm-acted kit r e x (Act.Prepare s v q) refl t .held-same (switchLeader kit)
+  holding-acted r e x (Act.Commit s v) t = calm-acted kit r e x (Act.Commit s v) refl t .held-same (switchLeader kit)
+  holding-acted r e x (Act.KnownPair s v) t = calm-acted kit r e x (Act.KnownPair s v) refl t .held-same (switchLeader kit)
+  holding-acted r e x (Act.NewPair s v q m) t = calm-acted kit r e x (Act.NewPair s v q m) refl t .held-same (switchLeader kit)
+  holding-acted r e x (Act.Switch s v) t = calm-acted kit r e x (Act.Switch s v) refl t .held-same (switchLeader kit)
+  holding-acted r e x (Act.Hand h) t = ap (λ (p : Replica). p .held) (replica-other r x _ (switchLeader kit) (λ z. t .other (sym z)))
+  holding-acted r e x Act.Panic t = calm-acted kit r e x Act.Panic refl t .held-same (switchLeader kit)
 
   -- the event after which it holds history h
   record Builds (r : Room) (e : Event) (list : List ℕ) (h : ℕ) : Type 0 where
@@ -138,27 +116,30 @@ module _ (kit : Kit) where
     numbered : length (r .histories) ≡ h
     is-filed : nth (onEvent kit r e list .room .histories) h ≡ some (built kit r)
 
-  build-builds : (r : Room) (list : List ℕ) (h : ℕ) → holding r ≡ none → holding (onBuild kit r .room) ≡ some h → Builds r Build list h
-  unfolding onEvent onBuild refuse
-  build-builds r list h free e =
-      let p = r .replica (switchLeader kit) in
-      split (isFaulty (p .condition) || (isRunning (p .condition) || isSome (p .held)))
-      (λ t. let z : holding r ≡ some h = rw t at e in no-way (cc (z, free)))
-      (λ t. let z : holding (afterBuild kit r) ≡ some h = rw t at e in
-      let n : length (r .histories) ≡ h = cc (z, built-held kit r) in
-      record { is-build = refl; is-taken = rw t; numbered = n; is-filed = rw (t, ← n) (built-filed kit r) })
+  carried-builds
+      : (r : Room) (e : Event) (x : ℕ) (list : List ℕ) (h : ℕ) (d : Decision) → decide kit r e ≡ d → x ≡ concerned kit e → Tested kit r e x d
+      → holding r ≡ none → holding (carryOut kit r x d list) ≡ some h → Builds r e list h
+  unfolding carryOut afterFile withHistory onEvent built
+  carried-builds r e x list h (Decision.Refuse answer) is at t free now = no-way (cc (free, now))
+  carried-builds r e x list h (Decision.Submit request) is at t free now = no-way (cc (calm-submit kit r request .held-same (switchLeader kit), free, now))
+  carried-builds r e x list h (Decision.Issue y name content) is at t free now =
+      no-way (cc (calm-faulty-issue kit r e x y name content t .held-same (switchLeader kit), free, now))
+  carried-builds r e x list h (Decision.Act act) is at t free now = no-way (cc (holding-acted r e x act t, free, now))
+  carried-builds r e x list h Decision.Idle is at t free now = no-way (cc (free, now))
+  carried-builds r e x list h (Decision.Build j k) is at t free now =
+      let was : holding (afterBuild r (switchLeader kit) (built kit r)) ≡ some h = rw (t .leads, t .counted-j, t .counted-k) at now in
+      let n : length (r .histories) ≡ h = cc (was, built-held kit r) in
+      record {
+        is-build = t .event;
+        is-taken = rw is;
+        numbered = n;
+        is-filed = rw (is, ← at, t .leads, t .counted-j, t .counted-k, ← n) (built-filed kit r);
+      }
+  carried-builds r e x list h (Decision.File j k) is at t free now = no-way (cc (free, now))
 
   event-builds : (r : Room) (e : Event) (list : List ℕ) (h : ℕ) → holding r ≡ none → holding (onEvent kit r e list .room) ≡ some h → Builds r e list h
   unfolding onEvent
-  event-builds r (Submit request) list h free e = no-way (cc (calm-submit kit r request .held-same (switchLeader kit), free, e))
-  event-builds r (Issue x name content) list h free e = no-way (cc (calm-faulty-issue r x name content .held-same (switchLeader kit), free, e))
-  event-builds r (Deliver sender name value to) list h free e =
-      no-way (cc (calm-deliver kit r sender name value to .held-same (switchLeader kit), free, e))
-  event-builds r (Hand p q to) list h free e = no-way (cc (holding-hand r p q to, free, e))
-  event-builds r (Panic to) list h free e = no-way (cc (calm-panic r to .held-same (switchLeader kit), free, e))
-  event-builds r Idle list h free e = no-way (cc (free, e))
-  event-builds r Build list h free e = build-builds r list h free e
-  event-builds r (File j k) list h free e = no-way (cc (holding-file r j k list, free, e))
+  event-builds r e list h free now = carried-builds r e (concerned kit e) list h (decide kit r e) refl refl (tested kit r e) free now
 
 -- a moment past the last event is the moment of the last
 after-end : (kit : Kit) (n : ℕ) → nth (kit .events) n ≡ none → after kit (suc n) ≡ after kit n

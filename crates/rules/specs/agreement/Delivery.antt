@@ -1,46 +1,39 @@
 -- A delivery on ag, up or sw keeps the invariant, and no list of settled requests loses anything. Assumes nothing.
 use mathlib.Core.Path.{_≡_, refl, sym, ap, _∙_}
-use mathlib.Core.Bool.{Bool, true, false, not, _&&_, _||_}
+use mathlib.Core.Bool.{true, false, not, _&&_}
 use mathlib.Core.Logic.{_≢_}
 use mathlib.Core.Option.{Option, none, some}
 use mathlib.Core.List.{List, [], _∷_, _++_}
-use Prim.Native.Nat.{ℕ, suc, _-_, _≤_}
+use Prim.Native.Nat.{ℕ, suc, _-_, _≤_, _<_}
 use native.Mathlib.Omega.{arith}
 use lib.ListN.{length, getD}
 use lib.Dec.{eqb, ltb, leb}
-use borrow.Author.Tests.{ltb-true, ltb-false, eqb-true, eqb-false, leb-true, leb-false}
+use borrow.Author.Tests.{ltb-true, ltb-false, eqb-false}
 use Rattle.terms.specs.Lists.{nth, holds, Sub, isSome}
-use Rattle.terms.specs.ListLaws.{split, no-way, pick-elim, and-l, and-r, or-l, or-r, not-was-false, not-was-true, nth-append, nth-snoc, nth-getD}
+use Rattle.terms.specs.ListLaws.{split, no-way, pick-elim, and-r, or-l, or-r, not-was-false, not-was-true, nth-append, nth-snoc, nth-getD}
 use Rattle.terms.specs.ListLaws.{length-snoc}
 use Rattle.terms.specs.Mark.{nextMark, markOf}
 use Rattle.terms.specs.Kit.{Kit}
 use Rattle.terms.specs.declared.Content.{Content}
 use Rattle.terms.specs.declared.Content.the-variants.{Prepare, Commit, Update}
+use Rattle.terms.specs.declared.Condition.{Condition}
 use Rattle.terms.specs.declared.Condition.the-variants.{Closed}
-use Rattle.terms.specs.declared.Answer.{Answer}
+use Rattle.terms.specs.declared.Event.{Event}
 use Rattle.rules.specs.Table.{ag, up, sw, isActive, isMarkedFaulty}
 use Rattle.rules.specs.laws.TableLaws.{Roles}
 use Rattle.rules.specs.Room.{Room, Replica, withReplica, issue, withCondition, withMark, note, notePair, accept}
 use Rattle.rules.specs.laws.RoomLaws.{accepted-rises, accepted-by-one}
-use Rattle.rules.specs.Reading.{isRunning, isClosed, isFaulty, contentAt, isContent, firstOf, secondOf, settledCount, settledNoted, heldList, agTotal}
-use Rattle.rules.specs.laws.ReadingLaws.{running-open, running-correct, isContent-same, settledCount-rises, settledCount-by-one, settledNoted-rises}
-use Rattle.rules.specs.Outcome.{Outcome, refuse}
+use Rattle.rules.specs.Reading.{isRunning, isClosed, isFaulty, entryAt, contentAt, settledCount, settledNoted, heldList, agTotal}
+use Rattle.rules.specs.laws.ReadingLaws.{running-open, running-correct, settledCount-rises, settledCount-by-one, settledNoted-rises}
 use Rattle.rules.specs.laws.Growth.{Grows, still-submitted, grows-refl, grows-trans, grows-withReplica, grows-issue}
 use Rattle.rules.specs.agreement.Invariant.{Common, Active, Passive, Part, Invariant, common-grows, active-grows, passive-grows}
 use Rattle.rules.specs.agreement.OneRoom.{open-in-backed}
 use Rattle.rules.specs.agreement.OneReplica.{common-note, common-same, common-close, active-prepare, active-commit, active-rise, active-same}
 use Rattle.rules.specs.agreement.OneReplica.{active-few, passive-same, passive-accept, passive-within}
-use Rattle.rules.specs.agreement.Frame.{Moved, moved-none, moved-record, moved-ag, moved-up, Next, next-none, next-move, grows-open}
+use Rattle.rules.specs.agreement.Frame.{Moved, moved-none, moved-record, moved-ag, moved-up, Next, next-move, grows-open}
 use Rattle.rules.specs.agreement.Frame.{grows-closing}
-use Rattle.rules.specs.Deliver.{settle, expectsPrepare, afterPrepare, expectsCommit, afterCommit, onAg, expectsPair, expectsUpdate, markOfPair}
-use Rattle.rules.specs.Deliver.{afterUpdate, onUp, switches, afterSwitch, onSw, isTooLate, hasWrongRoles, onDeliver}
-
--- a refusal leaves the room as it is
-pub next-refuse : (kit : Kit) (r : Room) → Invariant kit r → (t : Bool) (n : Answer) (o : Outcome) → (t ≡ false → Next kit r (o .room))
-    → Next kit r (refuse t n r o .room)
-unfolding refuse
-next-refuse kit r a true n o f = next-none kit r a
-next-refuse kit r a false n o f = f refl
+use Rattle.rules.specs.Deliver.{settle, afterPrepare, afterCommit, markOfPair, afterUpdate, switches, afterSwitch, isTooLate, hasWrongRoles}
+use Rattle.rules.specs.laws.Tested.{Delivered, ToPrepare, ToCommit, ToKnownPair, ToNewPair}
 
 -- the end of an event on ag: x has record p, has issued `ags` and `ups`, and has settled c, and its count is d now
 module _ (kit : Kit) {r r₁ : Room} (x : ℕ) {p₀ : Replica} (p : Replica) {ags ups : List Content} (c d : ℕ) (a : Invariant kit r)
@@ -174,49 +167,6 @@ next-commit kit r a s v x b fx ax sl run ev ec en =
     sub : Sub (settledNoted kit x p n) (settledNoted kit x p₁ n)
     sub = settledNoted-rises kit x p p₁ n n (λ i q e. e) ups
 
--- what the tests of contents give
-prepare-expected : (r : Room) (p : Replica) (o : Option Content) → expectsPrepare r p o ≡ true
-    → (o ≡ some (Prepare (firstOf o))) × (holds (firstOf o) (r .submitted) ≡ true) × (holds (firstOf o) (p .noted) ≡ false)
-unfolding expectsPrepare
-prepare-expected r p o e =
-    let a = holds (firstOf o) (r .submitted) in
-    let b = holds (firstOf o) (p .noted) in
-    let h = and-r (isContent o (Prepare (firstOf o))) (a && not b) e in (
-      isContent-same o (Prepare (firstOf o)) (and-l (isContent o (Prepare (firstOf o))) (a && not b) e),
-      and-l a (not b) h,
-      not-was-true b
-          (and-r a (not b) h),
-    )
-
-commit-expected : (p : Replica) (v : ℕ) (o : Option Content) → expectsCommit p v o ≡ true
-    → (v ≤ length (p .noted)) × (o ≡ some (Commit (getD (p .noted) (v - 1) 0) v))
-unfolding expectsCommit
-commit-expected p v o e =
-    let b = getD (p .noted) (v - 1) 0 in (
-      leb-true v (length (p .noted)) (and-l (leb v (length (p .noted))) (isContent o (Commit b v)) e),
-      isContent-same o (Commit b v)
-          (and-r (leb v (length (p .noted))) (isContent o (Commit b v)) e),
-    )
-
-next-ag : (kit : Kit) (r : Room) → Invariant kit r → (s v x : ℕ) (o : Option Content) → o ≡ contentAt (r .counter s ag) v
-    → isMarkedFaulty kit x ≡ false → isActive kit x ≡ true → s ≢ x → isRunning (r .replica x .condition) ≡ true
-    → v ≡ suc (r .replica x .accepted s ag) → Next kit r (onAg kit r s v x o .room)
-unfolding onAg
-next-ag kit r a s v x o eo fx ax sx run ev =
-    pick-elim (λ (z : Outcome). Next kit r (z .room)) (eqb s (kit .leader))
-    (λ t. next-refuse kit r a _ _ _ λ u.
-    let z = eqb-true s (kit .leader) t in
-    let w = prepare-expected r (r .replica x) o (not-was-false (expectsPrepare r (r .replica x) o) u) in
-    rw z (next-prepare kit r a v x (firstOf o) fx ax (λ y. sx (z ∙ sym y)) run (rw z at ev) (rw z at (ec ∙ w .0)) (w .1) (w .2)))
-    (λ t. next-refuse kit r a _ _ _ λ u.
-    let w = commit-expected (r .replica x) v o (not-was-false (expectsCommit (r .replica x) v o) u) in
-    let i : v - 1 ≡ r .replica x .accepted s ag = omega arith in
-    next-commit kit r a s v x _ fx ax (eqb-false s (kit .leader) t) run ev (rw i at (ec ∙ w .1))
-    (nth-getD (r .replica x .noted) (r .replica x .accepted s ag) 0 (omega (arith, w .0))))
-  where
-    ec : nth (r .counter s ag) (r .replica x .accepted s ag) ≡ o
-    ec = rw (eo, ev)
-
 -- ---- up
 
 -- the end of an event on up: x has record p₁
@@ -242,69 +192,50 @@ next-noting kit r a x p₁ ax u₀ u₁ more cm pas sub =
     })
     (λ f. grows-open kit x v g₀ g₁ (running-open (r .replica x .condition) u₀) (running-open (p₁ .condition) u₁) sub)
 
-pair-expected : (p : Replica) (v : ℕ) (o : Option Content) → expectsPair p v o ≡ true
-    → o ≡ some (Update (getD (p .noted) (v - 1) 0) (getD (p .pairMarks) (v - 1) 0))
-unfolding expectsPair
-pair-expected p v o e = isContent-same o _ e
+module _ (kit : Kit) (r : Room) (a : Invariant kit r) (s v x : ℕ) (fx : isMarkedFaulty kit x ≡ false) (ax : isActive kit x ≡ false)
+    (run : isRunning (r .replica x .condition) ≡ true) (ev : v ≡ suc (r .replica x .accepted s up)) where
+  abbrev p : Replica
+  p = r .replica x
 
-update-expected : (r : Room) (p : Replica) (o : Option Content) → expectsUpdate r p o ≡ true
-    → (o ≡ some (Update (firstOf o) (secondOf o))) × (holds (firstOf o) (r .submitted) ≡ true) × (holds (firstOf o) (p .noted) ≡ false)
-unfolding expectsUpdate
-update-expected r p o e =
-    let a = holds (firstOf o) (r .submitted) in
-    let b = holds (firstOf o) (p .noted) in
-    let c = isContent o (Update (firstOf o) (secondOf o)) in
-    let h = and-r c (a && not b) e in
-    (isContent-same o (Update (firstOf o) (secondOf o)) (and-l c (a && not b) e), and-l a (not b) h, not-was-true b (and-r a (not b) h))
+  loc : Part kit r x p (r .counter x ag) (r .counter x up)
+  loc = a .part x fx
 
-next-up : (kit : Kit) (r : Room) → Invariant kit r → (s v x : ℕ) (o : Option Content) → o ≡ contentAt (r .counter s up) v
-    → isMarkedFaulty kit x ≡ false → isActive kit x ≡ false → isRunning (r .replica x .condition) ≡ true
-    → v ≡ suc (r .replica x .accepted s up) → Next kit r (onUp kit r s v x o .room)
-unfolding onUp accept notePair
-next-up kit r a s v x o eo fx ax run ev =
-    pick-elim (λ (z : Outcome). Next kit r (z .room)) (leb v (length (p .noted)))
-    (λ t. next-refuse kit r a _ _ _ λ u.
-    let w = pair-expected p v o (not-was-false (expectsPair p v o) u) in
-    let l = leb-true v (length (p .noted)) t in
-    let i : v - 1 ≡ p .accepted s up = omega arith in
-    next-noting kit r a x (accept p s up v) ax run run (omega arith) (λ f. common-same kit refl refl refl refl (loc .common))
-    (λ f. passive-accept kit p (accept p s up v) s v (getD (p .noted) (p .accepted s up) 0) _ (λ j q e. e) (loc .passive ax .paired) refl ev
-    (nth-getD (p .noted) (p .accepted s up) 0 (omega arith)) (rw i at (ec ∙ w)) (loc .passive ax))
-    (settledNoted-rises kit x p (accept p s up v) n n (λ j q e. e)
-    (settledCount-rises kit x p (accept p s up v) n n (omega arith) (λ y m. accepted-rises (p .accepted) s up v y m ev))))
-    (λ t. next-refuse kit r a _ _ _ λ u.
-    let w = update-expected r p o (not-was-false (expectsUpdate r p o) u) in
-    let q = firstOf o in
-    let p₁ = accept (notePair p q (secondOf o)) s up v in
-    let i : p .accepted s up ≡ length (p .noted) = omega (arith, leb-false v (length (p .noted)) t, passive-within kit p s (loc .passive ax)) in
-    next-noting kit r a x p₁ ax run run (omega (arith, length-snoc (p .noted) q))
-    (λ f. common-note kit (grows-refl r) q refl refl refl (omega (arith, length-snoc (p .pairMarks) (secondOf o))) (w .1) (w .2) (loc .common))
-    (λ f. passive-accept kit p p₁ s v q (secondOf o) (λ j b e. nth-append (p .noted) (q ∷ []) j e)
-    (length-snoc (p .pairMarks) (secondOf o) ∙ ap suc (loc .passive ax .paired) ∙ sym (length-snoc (p .noted) q)) refl ev
-    (rw i (nth-snoc (p .noted) q)) (ec ∙ w .0) (loc .passive ax))
-    (settledNoted-rises kit x p p₁ n n (λ j b e. nth-append (p .noted) (q ∷ []) j e)
-    (settledCount-rises kit x p p₁ n n (omega arith) (λ y m. accepted-rises (p .accepted) s up v y m ev))))
-  where
-    p : Replica
-    p = r .replica x
+  -- an UPDATE of pair v, which x has noted
+  next-known : v ≤ length (p .noted) → nth (r .counter s up) (p .accepted s up) ≡ some (Update (entryAt (p .noted) v) (entryAt (p .pairMarks) v))
+      → Next kit r (afterUpdate kit r x (accept p s up v))
+  unfolding accept
+  next-known l ec =
+      let n = agTotal r x in
+      let i : v - 1 ≡ p .accepted s up = omega arith in
+      next-noting kit r a x (accept p s up v) ax run run (omega arith) (λ f. common-same kit refl refl refl refl (loc .common))
+      (λ f. passive-accept kit p (accept p s up v) s v (getD (p .noted) (p .accepted s up) 0) _ (λ j q e. e) (loc .passive ax .paired) refl ev
+      (nth-getD (p .noted) (p .accepted s up) 0 (omega arith)) (rw i at ec) (loc .passive ax))
+      (settledNoted-rises kit x p (accept p s up v) n n (λ j q e. e)
+      (settledCount-rises kit x p (accept p s up v) n n (omega arith) (λ y m. accepted-rises (p .accepted) s up v y m ev)))
 
-    n : ℕ
-    n = agTotal r x
-
-    loc : Part kit r x p (r .counter x ag) (r .counter x up)
-    loc = a .part x fx
-
-    ec : nth (r .counter s up) (p .accepted s up) ≡ o
-    ec = rw (eo, ev)
+  -- an UPDATE of a new request, which x notes
+  next-new : (q mark : ℕ) → length (p .noted) < v → nth (r .counter s up) (p .accepted s up) ≡ some (Update q mark)
+      → holds q (r .submitted) ≡ true → holds q (p .noted) ≡ false → Next kit r (afterUpdate kit r x (accept (notePair p q mark) s up v))
+  unfolding accept notePair
+  next-new q mark l ec es en =
+      let n = agTotal r x in
+      let p₁ = accept (notePair p q mark) s up v in
+      let i : p .accepted s up ≡ length (p .noted) = omega (arith, passive-within kit p s (loc .passive ax)) in
+      next-noting kit r a x p₁ ax run run (omega (arith, length-snoc (p .noted) q))
+      (λ f. common-note kit (grows-refl r) q refl refl refl (omega (arith, length-snoc (p .pairMarks) mark)) es en (loc .common))
+      (λ f. passive-accept kit p p₁ s v q mark (λ j b e. nth-append (p .noted) (q ∷ []) j e)
+      (length-snoc (p .pairMarks) mark ∙ ap suc (loc .passive ax .paired) ∙ sym (length-snoc (p .noted) q)) refl ev
+      (rw i (nth-snoc (p .noted) q)) ec (loc .passive ax))
+      (settledNoted-rises kit x p p₁ n n (λ j b e. nth-append (p .noted) (q ∷ []) j e)
+      (settledCount-rises kit x p p₁ n n (omega arith) (λ y m. accepted-rises (p .accepted) s up v y m ev)))
 
 -- ---- sw
 
-next-sw : (kit : Kit) → Roles kit → (r : Room) → Invariant kit r → (s v x : ℕ) (o : Option Content) → isMarkedFaulty kit x ≡ false
+next-sw : (kit : Kit) → Roles kit → (r : Room) → Invariant kit r → (s v x : ℕ) → isMarkedFaulty kit x ≡ false
     → isClosed (r .replica x .condition) ≡ false → isSome (r .replica x .held) ≡ true
-    → Next kit r (onSw kit r s v x o .room)
-unfolding onSw afterSwitch accept settledNoted settledCount withMark withCondition
-next-sw kit roles r a s v x o fx op hs =
-    next-refuse kit r a _ _ _ λ u.
+    → Next kit r (afterSwitch kit r x (accept (r .replica x) s sw v))
+unfolding afterSwitch accept settledNoted settledCount withMark withCondition
+next-sw kit roles r a s v x fx op hs =
     pick-elim (λ z. Next kit r z) (leb (kit .f) (switches kit p₁))
     (λ t. let v₁ = moved-record (moved-none r x) p₂ in
     let g = grows-withReplica r x p₂ in
@@ -355,49 +286,70 @@ next-sw kit roles r a s v x o fx op hs =
     ok : isFaulty (p .condition) ≡ false
     ok = a .faulty-marked x ∙ fx
 
--- ---- what the tests before them give, and the whole delivery
+-- ---- what was tested gives what they ask
 
-roles-ag : (kit : Kit) (s m x : ℕ) → hasWrongRoles kit s m x ≡ false → m ≡ 0 → (s ≢ x) × (isActive kit x ≡ true)
+roles-ag : (kit : Kit) (s x : ℕ) → hasWrongRoles (isActive kit) s ag x ≡ false → (s ≢ x) × (isActive kit x ≡ true)
 unfolding hasWrongRoles
-roles-ag kit s m x e z =
-    let b = not (isActive kit s && isActive kit x) in
-    let e₁ : (eqb s x || b) ≡ false = rw z at e in (
-      eqb-false s x (or-l (eqb s x) b e₁),
+roles-ag kit s x e =
+    let b = not (isActive kit s && isActive kit x) in (
+      eqb-false s x (or-l (eqb s x) b e),
       and-r (isActive kit s) (isActive kit x)
-          (not-was-false (isActive kit s && isActive kit x) (or-r (eqb s x) b e₁)),
+          (not-was-false (isActive kit s && isActive kit x) (or-r (eqb s x) b e)),
     )
 
-roles-up : (kit : Kit) (s m x : ℕ) → hasWrongRoles kit s m x ≡ false → m ≡ 1 → isActive kit x ≡ false
+roles-up : (kit : Kit) (s x : ℕ) → hasWrongRoles (isActive kit) s up x ≡ false → isActive kit x ≡ false
 unfolding hasWrongRoles
-roles-up kit s m x e z =
+roles-up kit s x e =
     let b = not (isActive kit s && not (isActive kit x)) in
-    let e₁ : (eqb s x || b) ≡ false = rw z at e in
     not-was-true (isActive kit x) (and-r (isActive kit s) (not (isActive kit x))
-    (not-was-false (isActive kit s && not (isActive kit x)) (or-r (eqb s x) b e₁)))
+    (not-was-false (isActive kit s && not (isActive kit x)) (or-r (eqb s x) b e)))
 
-in-time-running : (m : ℕ) (p : Replica) → isTooLate m p ≡ false → eqb m 2 ≡ false → isRunning (p .condition) ≡ true
+in-time-running : (m : ℕ) (c : Condition) → isTooLate m c ≡ false → eqb m sw ≡ false → isRunning c ≡ true
 unfolding isTooLate
-in-time-running m p e z = not-was-false (isRunning (p .condition)) (rw z at e)
+in-time-running m c e z = not-was-false (isRunning c) (rw z at e)
 
-in-time-open : (m : ℕ) (p : Replica) → isTooLate m p ≡ false → m ≡ 2 → isClosed (p .condition) ≡ false
+in-time-open : (c : Condition) → isTooLate sw c ≡ false → isClosed c ≡ false
 unfolding isTooLate
-in-time-open m p e z = rw z at e
+in-time-open c e = e
 
-pub next-deliver : (kit : Kit) → Roles kit → (r : Room) → Invariant kit r → (s m v x : ℕ) → m ≤ 2 → Next kit r (onDeliver kit r s m v x .room)
-unfolding onDeliver
-next-deliver kit roles r a s m v x m2 =
-    next-refuse kit r a _ _ _ λ fy. next-refuse kit r a _ _ _ λ iss. next-refuse kit r a _ _ _ λ lt. next-refuse kit r a _ _ _ λ ea.
-    next-refuse kit r a _ _ _ λ ro. next-refuse kit r a _ _ _ λ va.
-    let fx = sym (a .faulty-marked x) ∙ fy in
-    let ev = eqb-true v (suc (r .replica x .accepted s m)) (not-was-false (eqb v (suc (r .replica x .accepted s m))) va) in
-    pick-elim (λ (z : Outcome). Next kit r (z .room)) (eqb m 0)
-    (λ t. let z = eqb-true m 0 t in
-    let ro₁ = roles-ag kit s m x ro z in
-    next-ag kit r a s v x _ (rw z) fx (ro₁ .1) (ro₁ .0) (in-time-running m (r .replica x) lt (rw z)) (rw z at ev))
-    (λ t. pick-elim (λ (z : Outcome). Next kit r (z .room)) (eqb m 1)
-    (λ t₁. let z = eqb-true m 1 t₁ in
-    next-up kit r a s v x _ (rw z) fx (roles-up kit s m x ro z) (in-time-running m (r .replica x) lt (rw z)) (rw z at ev))
-    (λ t₁. let n0 : m ≢ 0 = eqb-false m 0 t in
-    let n1 : m ≢ 1 = eqb-false m 1 t₁ in
-    let z : m ≡ 2 = omega arith in
-    next-sw kit roles r a s v x _ fx (in-time-open m (r .replica x) lt z) (not-was-false (isSome (r .replica x .held)) (rw z at ea))))
+module _ (kit : Kit) (roles : Roles kit) (r : Room) (a : Invariant kit r) (e : Event) (x s v : ℕ) where
+  -- what is delivered is the next content of its counter
+  at-next : {m : ℕ} → Delivered kit r e x s m v → nth (r .counter s m) (r .replica x .accepted s m) ≡ contentAt (r .counter s m) v
+  at-next t = rw (t .next)
+
+  correct-marked : isFaulty (r .replica x .condition) ≡ false → isMarkedFaulty kit x ≡ false
+  correct-marked f = sym (a .faulty-marked x) ∙ f
+
+  pub next-prepared : (q : ℕ) → ToPrepare kit r e x s v q → Next kit r (afterPrepare kit r s v x q)
+  next-prepared q t =
+      let d = t .delivered in
+      let z = t .from-leader in
+      let ro = roles-ag kit s x (d .roles) in
+      rw z (next-prepare kit r a v x q (correct-marked (d .correct)) (ro .1) (λ y. ro .0 (z ∙ sym y))
+      (in-time-running ag (r .replica x .condition) (d .in-time) refl) (rw z at (d .next)) (rw z at (at-next d ∙ t .content))
+      (t .new .is-submitted) (t .new .not-noted))
+
+  pub next-committed : ToCommit kit r e x s v → Next kit r (afterCommit kit r s v x)
+  next-committed t =
+      let d = t .delivered in
+      let i : v - 1 ≡ r .replica x .accepted s ag = omega (arith, d .next) in
+      next-commit kit r a s v x _ (correct-marked (d .correct)) (roles-ag kit s x (d .roles) .1) (t .from-other)
+      (in-time-running ag (r .replica x .condition) (d .in-time) refl) (d .next) (rw i at (at-next d ∙ t .content))
+      (nth-getD (r .replica x .noted) (r .replica x .accepted s ag) 0 (omega (arith, t .exists, d .next)))
+
+  pub next-known-pair : ToKnownPair kit r e x s v → Next kit r (afterUpdate kit r x (accept (r .replica x) s up v))
+  next-known-pair t =
+      let d = t .delivered in
+      next-known kit r a s v x (correct-marked (d .correct)) (roles-up kit s x (d .roles)) (in-time-running up (r .replica x .condition) (d .in-time) refl)
+      (d .next) (t .exists) (at-next d ∙ t .content)
+
+  pub next-new-pair : (q mark : ℕ) → ToNewPair kit r e x s v q mark → Next kit r (afterUpdate kit r x (accept (notePair (r .replica x) q mark) s up v))
+  next-new-pair q mark t =
+      let d = t .delivered in
+      next-new kit r a s v x (correct-marked (d .correct)) (roles-up kit s x (d .roles)) (in-time-running up (r .replica x .condition) (d .in-time) refl)
+      (d .next) q mark (t .beyond) (at-next d ∙ t .content) (t .new .is-submitted) (t .new .not-noted)
+
+  pub next-switched : Delivered kit r e x s sw v → Next kit r (afterSwitch kit r x (accept (r .replica x) s sw v))
+  next-switched d =
+      next-sw kit roles r a s v x (correct-marked (d .correct)) (in-time-open (r .replica x .condition) (d .in-time))
+      (not-was-false (isSome (r .replica x .held)) (d .not-early))

@@ -1,21 +1,23 @@
 -- The other events and the clock keep the invariant: submit, issue, PANIC, file. Then each event of a good kit does.
 -- Assumes nothing.
-use mathlib.Core.Path.{_≡_, refl, sym, ap, _∙_}
+use mathlib.Core.Path.{_≡_, refl, sym, ap, subst, _∙_}
 use mathlib.Core.Bool.{true, false}
 use mathlib.Core.List.{List, [], _∷_, _++_}
 use Prim.Native.Nat.{ℕ, suc, _<_}
 use native.Mathlib.Omega.{arith}
 use lib.ListN.{length}
-use borrow.Author.Tests.{leb-false}
 use Rattle.terms.specs.Limits.{requestsMax}
 use Rattle.terms.specs.Lists.{holds}
-use Rattle.terms.specs.ListLaws.{no-way, pick-elim, not-was-false, not-true-false, nth-append, nth-snoc, length-snoc, holds-at, holds-nth}
+use Rattle.terms.specs.ListLaws.{no-way, pick-elim, not-true-false, nth-append, nth-snoc, length-snoc, holds-at, holds-nth}
 use Rattle.terms.specs.Kit.{Kit, GoodEvent, Entry, GoodEntry}
 use Rattle.terms.specs.declared.Content.{Content}
 use Rattle.terms.specs.declared.Content.the-variants.{Prepare}
 use Rattle.terms.specs.declared.Condition.the-variants.{Halted}
 use Rattle.terms.specs.declared.Event.{Event}
-use Rattle.terms.specs.declared.Event.the-variants.{Submit, Issue, Deliver, Hand, Panic, Idle, Build, File}
+use Rattle.terms.specs.declared.Act.{Act}
+use Rattle.terms.specs.declared.Act.the-variants as Act
+use Rattle.terms.specs.declared.Decision.{Decision}
+use Rattle.terms.specs.declared.Decision.the-variants as Decision
 use Rattle.rules.specs.Table.{ag, up, isMarkedFaulty, switchLeader}
 use Rattle.rules.specs.laws.TableLaws.{Roles}
 use Rattle.rules.specs.Room.{Room, Replica, withReplica, withClock, withLate, issue, remember, withCondition, note}
@@ -27,10 +29,12 @@ use Rattle.rules.specs.agreement.OneReplica.{common-note, common-halt, s
 use Rattle.rules.specs.agreement.Frame.{moved-none, moved-record, moved-ag, moved-submission, moved-file, moved-any, Next, next-none}
 use Rattle.rules.specs.agreement.Frame.{next-trans, next-move, next-still, grows-open}
 use Rattle.rules.specs.Clock.{tick}
-use Rattle.rules.specs.Submit.{afterSubmit, onSubmit, onIssue, onFile}
-use Rattle.rules.specs.Switching.{onPanic}
+use Rattle.rules.specs.Submit.{afterSubmit, afterFile}
+use Rattle.rules.specs.Switching.{afterPanic}
+use Rattle.rules.specs.Decide.{concerned, decide, acted, carryOut}
 use Rattle.rules.specs.Play.{onEvent, step}
-use Rattle.rules.specs.agreement.Delivery.{next-refuse, next-deliver}
+use Rattle.rules.specs.laws.Tested.{on-sw, ToPanic, ToAct, Tested, tested}
+use Rattle.rules.specs.agreement.Delivery.{next-prepared, next-committed, next-known-pair, next-new-pair, next-switched}
 use Rattle.rules.specs.agreement.Handover.{next-hand, next-build}
 
 -- ---- halting
@@ -61,11 +65,10 @@ halt-correct p = refl
 
 -- ---- submit, issue, PANIC, file
 
-next-submit : (kit : Kit) → Roles kit → (r : Room) → Invariant kit r → (q : ℕ) → Next kit r (onSubmit kit r q .room)
-unfolding onSubmit afterSubmit note issue withReplica remember settledCount
-next-submit kit roles r a q =
-    next-refuse kit r a _ _ _ λ e₁. next-refuse kit r a _ _ _ λ e₂.
-    let room = leb-false requestsMax (length (r .submitted)) e₂ in
+next-submit : (kit : Kit) → Roles kit → (r : Room) → Invariant kit r → (q : ℕ) → holds q (r .submitted) ≡ false → length (r .submitted) < requestsMax
+    → Next kit r (afterSubmit kit r q)
+unfolding afterSubmit note issue withReplica remember settledCount
+next-submit kit roles r a q e₁ room =
     pick-elim (λ z. Next kit r z) (isRunning (p .condition)) (λ t. go t (sym (a .faulty-marked l) ∙ running-correct (p .condition) t) e₁ room)
     (λ t. next-still kit l a (moved-submission (moved-none r l) q e₁ room))
   where
@@ -106,31 +109,24 @@ next-submit kit roles r a q =
         (λ f. let g = running-correct (p .condition) run in grows-open kit l v g g (running-open (p .condition) run)
         (running-open (p .condition) run) sub)
 
-next-issue : (kit : Kit) (r : Room) → Invariant kit r → (x m : ℕ) (c : Content) → Next kit r (onIssue r x m c .room)
-unfolding onIssue
-next-issue kit r a x m c =
-    next-refuse kit r a _ _ _ λ e₁. next-refuse kit r a _ _ _ λ e₂. next-refuse kit r a _ _ _ λ e₃.
-    next-move kit x a (moved-any r x m c) refl (λ f. no-way (cc (not-was-false (isFaulty (r .replica x .condition)) e₁, a .faulty-marked x)))
-    (λ f. no-way (cc (not-was-false (isFaulty (r .replica x .condition)) e₁, a .faulty-marked x)))
+next-issue : (kit : Kit) (r : Room) → Invariant kit r → (x m : ℕ) (c : Content) → isFaulty (r .replica x .condition) ≡ true → Next kit r (issue r x m c)
+next-issue kit r a x m c faulty =
+    next-move kit x a (moved-any r x m c) refl (λ f. no-way (cc (faulty, a .faulty-marked x))) (λ f. no-way (cc (faulty, a .faulty-marked x)))
 
-next-panic : (kit : Kit) (r : Room) → Invariant kit r → (x : ℕ) → Next kit r (onPanic r x .room)
-unfolding onPanic
-next-panic kit r a x =
-    next-refuse kit r a _ _ _ λ fx. next-refuse kit r a _ _ _ λ e.
+next-panic : (kit : Kit) (r : Room) → Invariant kit r → (e : Event) (x : ℕ) → ToPanic kit r e x → Next kit r (afterPanic r x)
+unfolding afterPanic
+next-panic kit r a e x t =
     let p = r .replica x in
-    let op = running-open (p .condition) (not-was-false (isRunning (p .condition)) e) in
+    let op = running-open (p .condition) (t .running) in
     let v = moved-record (moved-none r x) (withCondition p Halted) in
     let g = grows-withReplica r x (withCondition p Halted) in
-    next-move kit x a v (halt-correct p ∙ sym fx) (λ f. part-grows kit g (halt-part kit x p op (a .part x f)))
-    (λ f. grows-open kit x v fx (halt-correct p) op (halt-open p)
+    next-move kit x a v (halt-correct p ∙ sym (t .correct)) (λ f. part-grows kit g (halt-part kit x p op (a .part x f)))
+    (λ f. grows-open kit x v (t .correct) (halt-correct p) op (halt-open p)
     (rw (halt-settled kit x p (agTotal r x)) λ i q z. z))
 
-next-file : (kit : Kit) (r : Room) → Invariant kit r → (j n : ℕ) (l : List ℕ)
-    → FilingBounds (record { j = j; k = n; list = l }) → Next kit r (onFile r j n l .room)
-unfolding onFile
-next-file kit r a j n l h =
-    next-refuse kit r a _ _ _ λ e.
-    next-still kit 0 a (moved-file (moved-none r 0) (record { j = j; k = n; list = l }) (suc (r .filed)) h)
+next-file : (kit : Kit) (r : Room) → Invariant kit r → (j n : ℕ) (l : List ℕ) → FilingBounds (record { j = j; k = n; list = l }) → Next kit r (afterFile r j n l)
+unfolding afterFile
+next-file kit r a j n l h = next-still kit 0 a (moved-file (moved-none r 0) (record { j = j; k = n; list = l }) (suc (r .filed)) h)
 
 -- ---- the clock
 
@@ -151,17 +147,33 @@ next-tick kit r a gap =
 
 -- ---- one event
 
+module _ (kit : Kit) (roles : Roles kit) (r : Room) (a : Invariant kit r) (e : Event) (x size : ℕ) (list : List ℕ) (good : GoodEvent size e list) where
+  next-acted : (act : Act) → ToAct kit r e x act → Next kit r (acted kit r x act)
+  unfolding acted
+  next-acted (Act.Prepare s v q) t = next-prepared kit roles r a e x s v q t
+  next-acted (Act.Commit s v) t = next-committed kit roles r a e x s v t
+  next-acted (Act.KnownPair s v) t = next-known-pair kit roles r a e x s v t
+  next-acted (Act.NewPair s v q mark) t = next-new-pair kit roles r a e x s v q mark t
+  next-acted (Act.Switch s v) t = next-switched kit roles r a e x s v (on-sw kit r e x size list good t)
+  next-acted (Act.Hand h) t = next-hand kit r a e x h t
+  next-acted Act.Panic t = next-panic kit r a e x t
+
+  next-carried : (d : Decision) → Tested kit r e x d → Next kit r (carryOut kit r x d list)
+  unfolding carryOut
+  next-carried (Decision.Refuse answer) t = next-none kit r a
+  next-carried (Decision.Submit q) t = next-submit kit roles r a q (t .new) (t .few)
+  next-carried (Decision.Issue y m c) t = next-issue kit r a y m c (t .faulty)
+  next-carried (Decision.Act act) t = next-acted act t
+  next-carried Decision.Idle t = next-none kit r a
+  next-carried (Decision.Build j k) t = next-build kit roles r a e x j k t
+  next-carried (Decision.File j k) t =
+      let g = subst (λ (event : Event). GoodEvent size event list) (t .event) good in
+      next-file kit r a j k list (record { j-k = g .0; k-list = g .1; list-max = g .2 })
+
 next-event : (kit : Kit) → Roles kit → (r : Room) → Invariant kit r → (size : ℕ) (e : Event) (list : List ℕ) → GoodEvent size e list
     → Next kit r (onEvent kit r e list .room)
 unfolding onEvent
-next-event kit roles r a size (Submit q) list g = next-submit kit roles r a q
-next-event kit roles r a size (Issue x n c) list g = next-issue kit r a x n c
-next-event kit roles r a size (Deliver s n v x) list g = next-deliver kit roles r a s n v x (g .1)
-next-event kit roles r a size (Hand p q x) list g = next-hand kit r a p q x
-next-event kit roles r a size (Panic x) list g = next-panic kit r a x
-next-event kit roles r a size Idle list g = next-none kit r a
-next-event kit roles r a size Build list g = next-build kit roles r a
-next-event kit roles r a size (File j k) list g = next-file kit r a j k list (record { j-k = g .0; k-list = g .1; list-max = g .2 })
+next-event kit roles r a size e list g = next-carried kit roles r a e (concerned kit e) size list g (decide kit r e) (tested kit r e)
 
 pub next-step : (kit : Kit) → Roles kit → (r : Room) → Invariant kit r → (size : ℕ) (e : Entry) → GoodEntry size e → Next kit r (step kit r e .room)
 unfolding step

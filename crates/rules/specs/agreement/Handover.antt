@@ -11,8 +11,8 @@ use lib.ListN.{length, getD, length-append, List·getD-append}
 use lib.Seq.{take-append-le}
 use lib.Dec.{eqb}
 use borrow.Author.Tests.{eqb-true}
-use Rattle.terms.specs.Lists.{nth, holds, distinct, allOf, allBelow, Once, isSome}
-use Rattle.terms.specs.ListLaws.{split, no-way, pick-elim, and-l, and-r, or-l, or-r, not-was-false, not-true-false, eqb-same, nth-lt}
+use Rattle.terms.specs.Lists.{nth, holds, distinct, allOf, allBelow, Once}
+use Rattle.terms.specs.ListLaws.{split, no-way, pick-elim, and-l, and-r, not-true-false, eqb-same, nth-lt}
 use Rattle.terms.specs.ListLaws.{nth-snoc, nth-app-inv, nth-getD, length-snoc, holds-nth, not-holds, allBelow-at, allOf-at, distinct-once, once-cons}
 use Rattle.terms.specs.ListLaws.{once-head, once-tail, once-append}
 use Rattle.terms.specs.Kit.{Kit}
@@ -21,7 +21,7 @@ use Rattle.terms.specs.declared.Content.the-variants.{Prepare, Commit, History,
 use Rattle.rules.specs.Table.{ag, up, isMarkedFaulty, switchLeader}
 use Rattle.rules.specs.laws.TableLaws.{Roles}
 use Rattle.rules.specs.Room.{Room, Replica, Filing, withReplica, issue, withHistory, hold}
-use Rattle.rules.specs.Reading.{isRunning, isClosed, isFaulty, contentAt, isContent, firstOf, settledCount, settledNoted}
+use Rattle.rules.specs.Reading.{isRunning, isClosed, isFaulty, contentAt, isContent, settledCount, settledNoted}
 use Rattle.rules.specs.laws.ReadingLaws.{isContent-same, settledCount-active, settledCount-own, settledCount-waits, settledNoted-rises, entryAt-suc}
 use Rattle.rules.specs.laws.Growth.{Grows, still-submitted}
 use Rattle.rules.specs.agreement.Invariant.{FilingBounds, Backed, Active, Part, Invariant, common-grows, active-grows, passive-grows}
@@ -29,10 +29,10 @@ use Rattle.rules.specs.agreement.Sound.{Sound, sound-backed}
 use Rattle.rules.specs.agreement.Built.{built-filed}
 use Rattle.rules.specs.agreement.OneReplica.{common-hold, active-hold, active-build, passive-same}
 use Rattle.rules.specs.agreement.Frame.{Moved, moved-none, moved-record, moved-ag, moved-up, moved-sw, moved-file, Next, next-move, grows-open}
-use Rattle.rules.specs.Switching.{isCommitted, isValid, isValidFiling, afterHand, onHand, missing, built, afterBuild, onBuild}
-use Rattle.rules.specs.laws.Holding.{none-of}
+use Rattle.rules.specs.Switching.{isCommitted, isValid, isValidFiling, afterHand, missing, built, afterBuild, builtList}
 use Rattle.rules.specs.laws.Missing.{noted-missing}
-use Rattle.rules.specs.agreement.Delivery.{next-refuse}
+use Rattle.terms.specs.declared.Event.{Event}
+use Rattle.rules.specs.laws.Tested.{ToHand, ToBuild}
 
 -- ---- hand
 
@@ -72,27 +72,22 @@ pub validFiling-backed : (kit : Kit) (r : Room) → Invariant kit r → (p q h :
 validFiling-backed kit r a p q h none e v = no-way (cc)
 validFiling-backed kit r a p q h (some w) e v = valid-backed kit r p q h w (a .histories-fit h w e .k-list) e v
 
-pub next-hand : (kit : Kit) (r : Room) → Invariant kit r → (p q x : ℕ) → Next kit r (onHand kit r p q x .room)
-unfolding onHand afterHand hold settledNoted settledCount
-next-hand kit r a p q x =
-    next-refuse kit r a _ _ _ λ fx. next-refuse kit r a _ _ _ λ iss. next-refuse kit r a _ _ _ λ lt. next-refuse kit r a _ _ _ λ run.
-    next-refuse kit r a _ _ _ λ ro. next-refuse kit r a _ _ _ λ va.
+pub next-hand : (kit : Kit) (r : Room) → Invariant kit r → (e : Event) (x h : ℕ) → ToHand kit r e x h → Next kit r (afterHand r x h)
+unfolding afterHand hold settledNoted settledCount
+next-hand kit r a e x h t =
     let w = r .replica x in
-    let h = firstOf (contentAt (r .counter (switchLeader kit) ag) p) in
-    let wk = validFiling-backed kit r a p q h (nth (r .histories) h) refl (not-was-false (isValidFiling kit r p q h (nth (r .histories) h)) va) in
+    let wk = validFiling-backed kit r a (t .p) (t .q) h (nth (r .histories) h) refl (t .valid) in
     let v = moved-sw (moved-record (moved-none r x) (hold w h)) (Switch h) in
-    let op = or-r (isSome (w .held)) (isClosed (w .condition)) lt in
     next-move kit x a v refl
     (λ f. let loc = a .part x f in
     record {
-      common = common-grows kit (v .grows) (common-hold kit w h run wk (loc .common));
-      active = λ e. active-grows kit (v .grows) (active-hold kit x w _ _ _ h
-          (none-of (w .held) (or-l (isSome (w .held)) (isClosed (w .condition)) lt)) (loc .active e));
+      common = common-grows kit (v .grows) (common-hold kit w h (t .stopped) wk (loc .common));
+      active = λ e. active-grows kit (v .grows) (active-hold kit x w _ _ _ h (t .free) (loc .active e));
       passive = λ e. passive-grows kit (v .grows) (passive-same kit refl refl (λ y. refl) (loc .passive e));
       ag-few = loc .ag-few;
       up-few = loc .up-few;
     })
-    (λ f. grows-open kit x v fx fx op op (λ i b e. e))
+    (λ f. grows-open kit x v (t .correct) (t .correct) (t .not-closed) (t .not-closed) (λ i b e. e))
 
 -- ---- build
 
@@ -151,23 +146,23 @@ module _ (kit : Kit) (roles : Roles kit) (r : Room) (a : Invariant kit r) (fs : 
 
   -- its first k requests are those that it noted
   first : (i : ℕ) → i < length ags → (nth (builder .noted) i ≡ some (getD (built kit r .list) i 0)) × (i < length (builder .noted))
-  unfolding built
+  unfolding built builtList
   first i l =
       let small : i < length (builder .noted) = omega (arith, shown .ag-total free) in
       (rw (List·getD-append (builder .noted) rest 0 i small) (nth-getD (builder .noted) i 0 small), small)
 
   -- HISTORY comes to stand at k+1 and j+1
   at-k : nth (ags ++ (History number ∷ [])) (built kit r .k) ≡ some (History number)
-  unfolding built
+  unfolding built builtList
   at-k = nth-snoc ags (History number)
 
   at-j : nth (ups ++ (History number ∷ [])) (built kit r .j) ≡ some (History number)
-  unfolding built
+  unfolding built builtList
   at-j = rw (← (shown .up-total free)) (nth-snoc ups (History number))
 
   -- and so j is at most k: no more is settled than committed
   fits : FilingBounds (built kit r)
-  unfolding built
+  unfolding built builtList
   fits =
       record {
         j-k = omega (arith, nth-lt (ups ++ (History number ∷ [])) (built kit r .j) at-j, length-snoc ups (History number), shown .up-total free, count-few);
@@ -180,15 +175,15 @@ module _ (kit : Kit) (roles : Roles kit) (r : Room) (a : Invariant kit r) (fs : 
         );
       }
 
-  moved : Moved r (afterBuild kit r) (switchLeader kit) (hold builder number) (ags ++ (History number ∷ [])) (ups ++ (History number ∷ []))
+  moved : Moved r (afterBuild r (switchLeader kit) (built kit r)) (switchLeader kit) (hold builder number) (ags ++ (History number ∷ [])) (ups ++ (History number ∷ []))
   unfolding afterBuild issue withReplica withHistory
   moved =
       moved-sw (moved-up (moved-ag (moved-record (moved-file (moved-none r (switchLeader kit)) (built kit r) (r .filed) fits) (hold builder number))
       (History number)) (History number)) (Switch number)
 
   -- what it builds has all that a hand asks for
-  pub built-sound : Sound kit (afterBuild kit r) number (built kit r)
-  unfolding built
+  pub built-sound : Sound kit (afterBuild r (switchLeader kit) (built kit r)) number (built kit r)
+  unfolding built builtList
   built-sound =
       record {
         on-ag = rw (moved .ag-now) at-k;
@@ -212,7 +207,7 @@ module _ (kit : Kit) (roles : Roles kit) (r : Room) (a : Invariant kit r) (fs : 
             (λ i j q e d. not-holds (builder .noted) q (missing-at (builder .noted) (r .submitted) j q d .1) i e);
       }
     where
-      g : Grows r (afterBuild kit r)
+      g : Grows r (afterBuild r (switchLeader kit) (built kit r))
       g = moved .grows
 
   -- HISTORY on ag settles nothing: of the leader it has accepted what it noted
@@ -225,7 +220,7 @@ module _ (kit : Kit) (roles : Roles kit) (r : Room) (a : Invariant kit r) (fs : 
       (roles .active-listed l (roles .leader-active)) (λ z. roles .switch-not-leader (sym z))
       (omega (arith, shown .leader-accepted (roles .switch-not-leader) free, shown .ag-total free))
 
-  next-afterBuild : isRunning (builder .condition) ≡ false → Next kit r (afterBuild kit r)
+  next-afterBuild : isRunning (builder .condition) ≡ false → Next kit r (afterBuild r (switchLeader kit) (built kit r))
   unfolding hold
   next-afterBuild run =
       next-move kit (switchLeader kit) a moved refl
@@ -240,7 +235,7 @@ module _ (kit : Kit) (roles : Roles kit) (r : Room) (a : Invariant kit r) (fs : 
       (settledNoted-rises kit (switchLeader kit) builder (hold builder number) (length ags) (length (ags ++ (History number ∷ []))) (λ i q e. e)
       (omega (arith, count-stays))))
     where
-      backed : Backed kit (afterBuild kit r) number
+      backed : Backed kit (afterBuild r (switchLeader kit) (built kit r)) number
       backed = sound-backed kit (built-filed kit r) (fits .k-list) built-sound
 
       ok : isFaulty (builder .condition) ≡ false
@@ -249,11 +244,10 @@ module _ (kit : Kit) (roles : Roles kit) (r : Room) (a : Invariant kit r) (fs : 
       op : isClosed (builder .condition) ≡ false
       op = not-true-false (isClosed (builder .condition)) (λ t. let z = own .common .closed-holds t in no-way (cc (z .1)))
 
-pub next-build : (kit : Kit) → Roles kit → (r : Room) → Invariant kit r → Next kit r (onBuild kit r .room)
-unfolding onBuild
-next-build kit roles r a =
-    let p = r .replica (switchLeader kit) in
-    next-refuse kit r a _ _ _ λ t.
-    let rest = or-r (isFaulty (p .condition)) _ t in
-    next-afterBuild kit roles r a (sym (a .faulty-marked (switchLeader kit)) ∙ or-l (isFaulty (p .condition)) _ t)
-    (none-of (p .held) (or-r (isRunning (p .condition)) (isSome (p .held)) rest)) (or-l (isRunning (p .condition)) (isSome (p .held)) rest)
+pub next-build : (kit : Kit) → Roles kit → (r : Room) → Invariant kit r → (e : Event) (x j k : ℕ) → ToBuild kit r e x j k
+    → Next kit r (afterBuild r x (record { j = j; k = k; list = builtList r x }))
+unfolding built
+next-build kit roles r a e x j k t =
+    let z = t .leads in
+    rw (z, t .counted-j, t .counted-k)
+    (next-afterBuild kit roles r a (sym (a .faulty-marked (switchLeader kit)) ∙ rw z at (t .correct)) (rw z at (t .free)) (rw z at (t .stopped)))

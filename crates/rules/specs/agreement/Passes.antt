@@ -4,6 +4,7 @@ use mathlib.Core.Path.{_≡_}
 use mathlib.Core.Bool.{true}
 use mathlib.Core.Logic.{_≢_}
 use mathlib.Core.Option.{none, some}
+use mathlib.Core.List.{List}
 use Prim.Native.Nat.{ℕ, suc, _<_}
 use lib.Dec.{eqb}
 use borrow.Author.Tests.{eqb-false, ne-eqb}
@@ -12,11 +13,14 @@ use Rattle.terms.specs.ListLaws.{split, and-both, eqb-same, holds-at, allBelow-
 use Rattle.terms.specs.ListLaws.{once-distinct}
 use Rattle.terms.specs.Kit.{Kit}
 use Rattle.terms.specs.declared.Condition.the-variants.{Halted}
+use Rattle.terms.specs.declared.Event.the-variants.{Hand}
 use Rattle.rules.specs.Table.{actives, switchLeader}
 use Rattle.rules.specs.Room.{Room, Filing}
 use Rattle.rules.specs.laws.ReadingLaws.{entryAt-suc, isContent-self}
-use Rattle.rules.specs.Outcome.{refuse, taken}
-use Rattle.rules.specs.Switching.{isCommitted, isSettledBy, isValid, afterHand, onHand}
+use Rattle.rules.specs.Outcome.{refuseIf, taken}
+use Rattle.rules.specs.Switching.{isCommitted, isSettledBy, isValid, decideHold, decideHand, afterHand}
+use Rattle.rules.specs.Decide.{concerned, decide, acted, carryOut}
+use Rattle.rules.specs.Play.{onEvent}
 use Rattle.rules.specs.agreement.Sound.{Sound}
 
 module _ (kit : Kit) {r : Room} {number : ℕ} {filing : Filing} (v : Sound kit r number filing) where
@@ -47,6 +51,6 @@ module _ (kit : Kit) {r : Room} {number : ℕ} {filing : Filing} (v : Sound kit 
 pub sound-hands
     : (kit : Kit) {r : Room} {number : ℕ} {filing : Filing} → Sound kit r number filing → nth (r .histories) number ≡ some filing
     → (to : ℕ) → to ≢ switchLeader kit → r .replica to .condition ≡ Halted → r .replica to .held ≡ none
-    → onHand kit r (suc (filing .k)) (suc (filing .j)) to ≡ taken (afterHand r to number)
-unfolding onHand refuse
-sound-hands kit v filed to other halted free = rw (halted, v .on-ag, v .on-up, free, ne-eqb to (switchLeader kit) other, filed, sound-passes kit v)
+    → (list : List ℕ) → onEvent kit r (Hand (suc (filing .k)) (suc (filing .j)) to) list ≡ taken (afterHand r to number)
+unfolding onEvent concerned decide decideHand decideHold refuseIf carryOut acted
+sound-hands kit v filed to other halted free list = rw (halted, v .on-ag, v .on-up, free, ne-eqb to (switchLeader kit) other, filed, sound-passes kit v)

@@ -22,34 +22,51 @@ use Rattle.rules.specs.Room.{
 }
 use Rattle.rules.specs.Reading.{sameContent, settledCount, settledNoted, heldList, settled, answeredAt, answered}
 use Rattle.rules.specs.Clock.{tick}
-use Rattle.rules.specs.Outcome.{refuse}
-use Rattle.rules.specs.Submit.{afterSubmit, onSubmit, onIssue, onFile}
+use Rattle.rules.specs.Outcome.{refuseIf}
+use Rattle.rules.specs.Submit.{decideSubmit, afterSubmit, decideIssue, decideFile, afterFile}
 use Rattle.rules.specs.Deliver.{
   settle,
-  expectsPrepare,
+  decidePrepare,
   afterPrepare,
-  expectsCommit,
+  decideCommit,
   afterCommit,
-  onAg,
-  expectsPair,
-  expectsUpdate,
+  decideAg,
+  decidePair,
+  decideUpdate,
   afterUpdate,
-  onUp,
+  decideUp,
+  decideSw,
   switches,
   afterSwitch,
-  onSw,
   isTooLate,
   hasWrongRoles,
-  onDeliver,
+  decideContent,
+  decideReceive,
+  decideDeliver,
 }
-use Rattle.rules.specs.Switching.{onPanic, built, afterBuild, onBuild, isCommitted, isSettledBy, isValid, afterHand, onHand}
+use Rattle.rules.specs.Switching.{
+  decidePanic,
+  afterPanic,
+  builtList,
+  built,
+  decideBuild,
+  afterBuild,
+  isCommitted,
+  isSettledBy,
+  isValid,
+  decideHold,
+  decideHand,
+  afterHand,
+}
+use Rattle.rules.specs.Decide.{decide, concerned, acted, carryOut}
 use Rattle.rules.specs.Play.{onEvent, step, play, after, answer}
 
 -- the room after the first n events; to unfold it is to unfold all that its line names
 unfoldable pub computing : Kit → ℕ → Room
 unfolding
     nextMark isActive isMarkedFaulty actives switchLeader freshReplica freshRoom withClock withLate withReplica issue withHistory remember withCondition withMark
-    note notePair accept hold sameContent settledCount settledNoted heldList settled answeredAt answered tick refuse afterSubmit onSubmit onIssue onFile settle
-    expectsPrepare afterPrepare expectsCommit afterCommit onAg expectsPair expectsUpdate afterUpdate onUp switches afterSwitch onSw isTooLate hasWrongRoles
-    onDeliver onPanic built afterBuild onBuild isCommitted isSettledBy isValid afterHand onHand onEvent step play after answer
+    note notePair accept hold sameContent settledCount settledNoted heldList settled answeredAt answered tick refuseIf decideSubmit afterSubmit decideIssue
+    decideFile afterFile settle decidePrepare afterPrepare decideCommit afterCommit decideAg decidePair decideUpdate afterUpdate decideUp decideSw switches
+    afterSwitch isTooLate hasWrongRoles decideContent decideReceive decideDeliver decidePanic afterPanic builtList built decideBuild afterBuild isCommitted
+    isSettledBy isValid decideHold decideHand afterHand decide concerned acted carryOut onEvent step play after answer
 computing kit n = after kit n

@@ -7,21 +7,24 @@ use mathlib.Core.List.{List, [], _∷_}
 use Prim.Native.Nat.{ℕ, _≤_}
 use native.Mathlib.Omega.{arith}
 use lib.ListN.{length}
-use lib.Dec.{eqb, leb, ltb}
+use lib.Dec.{leb, ltb}
 use Rattle.terms.specs.Lists.{pick}
 use Rattle.terms.specs.Kit.{Kit}
 use Rattle.terms.specs.declared.Content.{Content}
 use Rattle.terms.specs.declared.Event.{Event}
-use Rattle.terms.specs.declared.Event.the-variants.{Submit, Issue, Deliver, Hand, Panic, Idle, Build, File}
-use Rattle.terms.specs.declared.Answer.{Answer}
 use Rattle.terms.specs.declared.Answer.the-variants.{Taken}
-use Rattle.rules.specs.Table.{ag, up, sw}
+use Rattle.terms.specs.declared.Act.{Act}
+use Rattle.terms.specs.declared.Act.the-variants as Act
+use Rattle.terms.specs.declared.Decision.{Decision}
+use Rattle.terms.specs.declared.Decision.the-variants as Decision
+use Rattle.rules.specs.Table.{ag, sw}
 use Rattle.rules.specs.Room.{Room, Replica, Filing, withReplica, withHistory, remember, issue, accept}
 use Rattle.rules.specs.Reading.{isRunning}
-use Rattle.rules.specs.Outcome.{Outcome, refuse, taken}
-use Rattle.rules.specs.Submit.{afterSubmit, onSubmit, onIssue, onFile}
-use Rattle.rules.specs.Deliver.{settle, switches, afterPrepare, afterCommit, onAg, afterUpdate, onUp, afterSwitch, onSw, onDeliver}
-use Rattle.rules.specs.Switching.{onPanic, afterBuild, onBuild, afterHand, onHand}
+use Rattle.rules.specs.Outcome.{Outcome, taken}
+use Rattle.rules.specs.Submit.{afterSubmit, afterFile}
+use Rattle.rules.specs.Deliver.{settle, switches, afterPrepare, afterCommit, afterUpdate, afterSwitch}
+use Rattle.rules.specs.Switching.{afterPanic, afterBuild, afterHand}
+use Rattle.rules.specs.Decide.{concerned, decide, acted, carryOut, done}
 use Rattle.rules.specs.Play.{onEvent}
 
 -- ---- changes
@@ -84,15 +87,6 @@ three : 3 ≤ 3
 three = omega arith
 
 module _ {r : Room} where
-  comes-refused : (t : Bool) (a : Answer) (o : Outcome) → Comes r o → Comes r (refuse t a r o)
-  unfolding refuse
-  comes-refused true a o c = record { refused = λ d. refl; few = record { changes = []; few = no; gives = refl } }
-  comes-refused false a o c = c
-
-  comes-either : (t : Bool) (o o₁ : Outcome) → Comes r o → Comes r o₁ → Comes r (pick t o o₁)
-  comes-either true o o₁ c d = c
-  comes-either false o o₁ c d = d
-
   comes-taken : {r₁ : Room} → Few r r₁ → Comes r (taken r₁)
   comes-taken f = record { refused = λ d. absurd (d refl); few = f }
 
@@ -122,40 +116,30 @@ few-commit-settle r y content x p c d =
     (record { changes = issued y ag content ∷ recorded _ _ ∷ issued _ _ _ ∷ []; few = two; gives = refl })
     (record { changes = issued y ag content ∷ recorded _ _ ∷ []; few = one; gives = refl })
 
-comes-deliver : (kit : Kit) (r : Room) (sender name value to : ℕ) → Comes r (onDeliver kit r sender name value to)
-unfolding onDeliver onAg afterPrepare afterCommit onUp afterUpdate onSw afterSwitch
-comes-deliver kit r sender name value to =
-    comes-refused _ _ _ (comes-refused _ _ _ (comes-refused _ _ _ (comes-refused _ _ _ (comes-refused _ _ _ (comes-refused _ _ _
-    (comes-either (eqb name ag) _ _
-    (comes-either (eqb sender (kit .leader)) _ _
-    (comes-refused _ _ _ (comes-taken (few-commit-settle r _ _ _ _ _ _)))
-    (comes-refused _ _ _ (comes-taken (few-settle r _ _ _ _))))
-    (comes-either (eqb name up) _ _
-    (comes-either (leb value (length (r .replica to .noted))) _ _
-    (comes-refused _ _ _ (comes-taken (few-recorded to _)))
-    (comes-refused _ _ _ (comes-taken (few-recorded to _))))
-    (comes-refused _ _ _ (comes-taken (few-pick (leb (kit .f) (switches kit (accept (r .replica to) sender sw value))) (few-recorded to _) (few-recorded to _)))))))))))
+-- whatever the replica concerned does
+few-acted : (kit : Kit) (r : Room) (x : ℕ) (act : Act) → Few r (acted kit r x act)
+unfolding acted afterPrepare afterCommit afterUpdate afterSwitch afterHand afterPanic
+few-acted kit r x (Act.Prepare sender value request) = few-commit-settle r _ _ _ _ _ _
+few-acted kit r x (Act.Commit sender value) = few-settle r _ _ _ _
+few-acted kit r x (Act.KnownPair sender value) = few-recorded x _
+few-acted kit r x (Act.NewPair sender value request mark) = few-recorded x _
+few-acted kit r x (Act.Switch sender value) =
+    few-pick (leb (kit .f) (switches kit (accept (r .replica x) sender sw value))) (few-recorded x _) (few-recorded x _)
+few-acted kit r x (Act.Hand history) = record { changes = recorded _ _ ∷ issued _ _ _ ∷ []; few = one; gives = refl }
+few-acted kit r x Act.Panic = few-recorded x _
 
-comes-hand : (kit : Kit) (r : Room) (p q to : ℕ) → Comes r (onHand kit r p q to)
-unfolding onHand afterHand
-comes-hand kit r p q to =
-    comes-refused _ _ _ (comes-refused _ _ _ (comes-refused _ _ _ (comes-refused _ _ _ (comes-refused _ _ _ (comes-refused _ _ _
-    (comes-taken (record { changes = recorded _ _ ∷ issued _ _ _ ∷ []; few = one; gives = refl })))))))
-
-comes-build : (kit : Kit) (r : Room) → Comes r (onBuild kit r)
-unfolding onBuild afterBuild
-comes-build kit r =
-    comes-refused _ _ _
-    (comes-taken (record { changes = filed _ _ ∷ recorded _ _ ∷ issued _ _ _ ∷ issued _ _ _ ∷ issued _ _ _ ∷ []; few = three; gives = refl }))
+-- whatever was decided
+comes-done : (kit : Kit) (r : Room) (x : ℕ) (list : List ℕ) (d : Decision) → Comes r (done kit r x list d)
+unfolding carryOut afterBuild afterFile
+comes-done kit r x list (Decision.Refuse answer) = record { refused = λ d. refl; few = record { changes = []; few = no; gives = refl } }
+comes-done kit r x list (Decision.Submit request) = comes-taken (few-submit kit r request)
+comes-done kit r x list (Decision.Issue y name content) = comes-taken (record { changes = issued y name content ∷ []; few = one; gives = refl })
+comes-done kit r x list (Decision.Act act) = comes-taken (few-acted kit r x act)
+comes-done kit r x list Decision.Idle = comes-taken (record { changes = []; few = no; gives = refl })
+comes-done kit r x list (Decision.Build j k) =
+    comes-taken (record { changes = filed _ _ ∷ recorded _ _ ∷ issued _ _ _ ∷ issued _ _ _ ∷ issued _ _ _ ∷ []; few = three; gives = refl })
+comes-done kit r x list (Decision.File j k) = comes-taken (record { changes = filed _ _ ∷ []; few = no; gives = refl })
 
 pub event-comes : (kit : Kit) (r : Room) (e : Event) (list : List ℕ) → Comes r (onEvent kit r e list)
-unfolding onEvent onSubmit onIssue onFile onPanic
-event-comes kit r (Submit request) list = comes-refused _ _ _ (comes-refused _ _ _ (comes-taken (few-submit kit r request)))
-event-comes kit r (Issue x name content) list =
-    comes-refused _ _ _ (comes-refused _ _ _ (comes-refused _ _ _ (comes-taken (record { changes = issued x name content ∷ []; few = one; gives = refl }))))
-event-comes kit r (Deliver sender name value to) list = comes-deliver kit r sender name value to
-event-comes kit r (Hand p q to) list = comes-hand kit r p q to
-event-comes kit r (Panic to) list = comes-refused _ _ _ (comes-refused _ _ _ (comes-taken (few-recorded to _)))
-event-comes kit r Idle list = comes-taken (record { changes = []; few = no; gives = refl })
-event-comes kit r Build list = comes-build kit r
-event-comes kit r (File j k) list = comes-refused _ _ _ (comes-taken (record { changes = filed _ _ ∷ []; few = no; gives = refl }))
+unfolding onEvent
+event-comes kit r e list = comes-done kit r (concerned kit e) list (decide kit r e)

@@ -18,7 +18,8 @@ use Rattle.rules.specs.Play.{step, play, after, answer}
 use Rattle.rules.specs.laws.Growth.{after-suc}
 use Rattle.rules.specs.laws.Time.{step-clock, step-late}
 use Rattle.rules.specs.laws.Instead.{Instead, back, replace, replaced, stands-two, first-stands, second-stands, each-none, each-first, step-other, same-settings, rooms-before, answers-before, rooms-behind, answers-behind, instead-length, instead-good}
-use Rattle.rules.specs.laws.Order.{Delivery, delivery, isIssued, OrderFree, order-free}
+use Rattle.rules.specs.Deliver.{Delivery}
+use Rattle.rules.specs.laws.Order.{delivery, isIssued, OrderFree, order-free}
 
 -- kit₁ is kit with the deliveries at places n and n+1 exchanged
 pub record Exchanged (n : ℕ) (kit kit₁ : Kit) : Type 0 where

@@ -19,7 +19,8 @@ use Rattle.rules.specs.examples.PaperTable.{at, kitOf}
 use Rattle.rules.specs.examples.EasyToGetWrong.{answers}
 use Rattle.rules.specs.laws.Settings.{sameTable}
 use Rattle.rules.specs.laws.Instead.{withEvents, replace}
-use Rattle.rules.specs.laws.Order.{Delivery, delivery}
+use Rattle.rules.specs.Deliver.{Delivery}
+use Rattle.rules.specs.laws.Order.{delivery}
 use Rattle.rules.specs.laws.Exchange.{Exchanged, exchange}
 
 -- sender, name and value of a certificate, and whom it is delivered to

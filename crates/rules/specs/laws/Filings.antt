@@ -2,7 +2,7 @@
 -- nothing on sw, and one that holds one has issued once; a faulty replica's counters have 96 places. In every play of any kit.
 -- Assumes nothing.
 use mathlib.Core.Path.{_≡_, refl, sym, ap, _∙_}
-use mathlib.Core.Bool.{Bool, true, false, and-false, or-true}
+use mathlib.Core.Bool.{true, false, and-false, or-true, _||_}
 use mathlib.Core.Logic.{_≢_}
 use mathlib.Core.Option.{Option, none, some}
 use mathlib.Core.List.{List, [], _∷_}
@@ -10,26 +10,31 @@ use Prim.Native.Nat.{ℕ, suc, _≤_, _<_}
 use native.Mathlib.Omega.{arith}
 use lib.ListN.{length, take}
 use lib.Dec.{eqb}
-use borrow.Author.Tests.{eqb-true, eqb-false, ne-eqb, leb-false}
+use borrow.Author.Tests.{eqb-true, ne-eqb}
 use Rattle.terms.specs.Limits.{filedMax, nameMax}
 use Rattle.terms.specs.Lists.{nth, isSome}
-use Rattle.terms.specs.ListLaws.{split, no-way, length-snoc, or-l, eqb-same}
+use Rattle.terms.specs.ListLaws.{split, no-way, length-snoc, or-l, eqb-same, or-r}
 use Rattle.terms.specs.Kit.{Kit, Entry}
 use Rattle.terms.specs.declared.Content.{Content}
 use Rattle.terms.specs.declared.Event.{Event}
-use Rattle.terms.specs.declared.Event.the-variants.{Submit, Issue, Deliver, Hand, Panic, Idle, Build, File}
-use Rattle.terms.specs.declared.Answer.{Answer}
+use Rattle.terms.specs.declared.Event.the-variants.{Build}
+use Rattle.terms.specs.declared.Act.{Act}
+use Rattle.terms.specs.declared.Act.the-variants as Act
+use Rattle.terms.specs.declared.Decision.{Decision}
+use Rattle.terms.specs.declared.Decision.the-variants as Decision
 use Rattle.terms.specs.declared.Answer.the-variants.{Taken, CannotBuild}
 use Rattle.rules.specs.Table.{ag, up, sw, switchLeader}
-use Rattle.rules.specs.Room.{Room, Replica, freshRoom, freshReplica, withReplica, issue, withHistory, hold}
-use Rattle.rules.specs.Reading.{isClosed, isFaulty}
+use Rattle.rules.specs.Room.{Room, Replica, Filing, freshRoom, freshReplica, withReplica, issue, withHistory, hold}
+use Rattle.rules.specs.Reading.{isRunning, isFaulty}
 use Rattle.rules.specs.Clock.{tick}
-use Rattle.rules.specs.Outcome.{Outcome, refuse}
-use Rattle.rules.specs.Submit.{onFile}
-use Rattle.rules.specs.Switching.{built, afterBuild, onBuild, afterHand, onHand}
+use Rattle.rules.specs.Outcome.{refuseIf}
+use Rattle.rules.specs.Submit.{afterFile}
+use Rattle.rules.specs.Switching.{built, decideBuild, afterBuild, afterHand}
+use Rattle.rules.specs.Decide.{concerned, decide, acted, carryOut}
 use Rattle.rules.specs.Play.{onEvent, step, play, after, answer}
 use Rattle.rules.specs.laws.Growth.{after-suc}
-use Rattle.rules.specs.laws.Holding.{Calm, FaultyFew, calm-submit, calm-deliver, calm-panic, calm-faulty-issue, calm-tick, none-of, free-of}
+use Rattle.rules.specs.laws.Tested.{none-of, ToAct, Tested, tested}
+use Rattle.rules.specs.laws.Holding.{Calm, FaultyFew, calm-submit, calm-acted, calm-faulty-issue, calm-tick}
 use Rattle.rules.specs.laws.Holding.{tick-keeps, after-keeps}
 
 -- what a correct replica has issued on sw
@@ -60,19 +65,12 @@ few-calm kit c h =
       unnamed = λ x n f l. let fx = sym (c .faulty-same x) ∙ f in c .others-same x n fx (omega arith) ∙ h .unnamed x n fx l;
     }
 
-few-refuse : (kit : Kit) (r : Room) → FilesFew kit r → (t : Bool) (a : Answer) (o : Outcome) → (t ≡ false → FilesFew kit (o .room))
-    → FilesFew kit (refuse t a r o .room)
-unfolding refuse
-few-refuse kit r h true a o f = h
-few-refuse kit r h false a o f = f refl
-
-few-file : (kit : Kit) (r : Room) → FilesFew kit r → (j k : ℕ) (list : List ℕ) → FilesFew kit (onFile r j k list .room)
-unfolding onFile withHistory
-few-file kit r h j k list =
-    few-refuse kit r h _ _ _ λ e.
+few-file : (kit : Kit) (r : Room) → FilesFew kit r → (j k : ℕ) (list : List ℕ) → r .filed < filedMax → FilesFew kit (afterFile r j k list)
+unfolding afterFile withHistory
+few-file kit r h j k list l =
     let s = length-snoc (r .histories) (record { j = j; k = k; list = list }) in
     record {
-      filed-few = omega (arith, leb-false filedMax (r .filed) e);
+      filed-few = omega arith;
       histories-few = omega (arith, s, h .histories-few);
       unbuilt = λ z. omega (arith, s, h .unbuilt z);
       switched = h .switched;
@@ -121,24 +119,14 @@ few-hold kit r few x h d fx free =
       unnamed = unnamed-hold kit r few x h fx free;
     }
 
-few-hand : (kit : Kit) (r : Room) → FilesFew kit r → (p q to : ℕ) → FilesFew kit (onHand kit r p q to .room)
-unfolding onHand
-few-hand kit r h p q to =
-    few-refuse kit r h _ _ _ λ fx. few-refuse kit r h _ _ _ λ e₂. few-refuse kit r h _ _ _ λ late. few-refuse kit r h _ _ _ λ e₄.
-    few-refuse kit r h _ _ _ λ e₅. few-refuse kit r h _ _ _ λ e₆.
-    let free = none-of (r .replica to .held) (or-l (isSome (r .replica to .held)) (isClosed (r .replica to .condition)) late) in
-    few-hold kit r h to _ (eqb-false to (switchLeader kit) e₅) fx free
-
-few-build : (kit : Kit) (r : Room) → FilesFew kit r → FilesFew kit (onBuild kit r .room)
-unfolding onBuild afterBuild issue withReplica withHistory hold
-few-build kit r few =
-    few-refuse kit r few _ _ _ λ e.
+few-build : (kit : Kit) (r : Room) → FilesFew kit r → (filing : Filing) → isFaulty (r .replica (switchLeader kit) .condition) ≡ false
+    → r .replica (switchLeader kit) .held ≡ none → FilesFew kit (afterBuild r (switchLeader kit) filing)
+unfolding afterBuild issue withReplica withHistory hold
+few-build kit r few filing fs free =
     let s = switchLeader kit in
-    let free = free-of _ (r .replica s .held) (λ h eh. simp (eh, or-true)) e in
-    let fs = or-l (isFaulty (r .replica s .condition)) _ e in
     record {
       filed-few = few .filed-few;
-      histories-few = omega (arith, length-snoc (r .histories) (built kit r), few .unbuilt free);
+      histories-few = omega (arith, length-snoc (r .histories) filing, few .unbuilt free);
       unbuilt = λ z. let z₁ : _≡_ {A = Option ℕ} (some (length (r .histories))) none = rw (eqb-same s) at z in no-way (cc);
       switched = λ y f.
           split (eqb y s)
@@ -159,16 +147,30 @@ few-build kit r few =
           (λ t. few .unnamed y n (rw t at d) l));
     }
 
+module _ (kit : Kit) (r : Room) (few : FilesFew kit r) (e : Event) (x : ℕ) where
+  few-acted : (act : Act) → ToAct kit r e x act → FilesFew kit (acted kit r x act)
+  unfolding acted
+  few-acted (Act.Prepare sender value request) t = few-calm kit (calm-acted kit r e x (Act.Prepare sender value request) refl t) few
+  few-acted (Act.Commit sender value) t = few-calm kit (calm-acted kit r e x (Act.Commit sender value) refl t) few
+  few-acted (Act.KnownPair sender value) t = few-calm kit (calm-acted kit r e x (Act.KnownPair sender value) refl t) few
+  few-acted (Act.NewPair sender value request mark) t = few-calm kit (calm-acted kit r e x (Act.NewPair sender value request mark) refl t) few
+  few-acted (Act.Switch sender value) t = few-calm kit (calm-acted kit r e x (Act.Switch sender value) refl t) few
+  few-acted (Act.Hand history) t = few-hold kit r few x history (t .other) (t .correct) (t .free)
+  few-acted Act.Panic t = few-calm kit (calm-acted kit r e x Act.Panic refl t) few
+
+  few-carried : (d : Decision) (list : List ℕ) → Tested kit r e x d → FilesFew kit (carryOut kit r x d list)
+  unfolding carryOut
+  few-carried (Decision.Refuse answer) list t = few
+  few-carried (Decision.Submit request) list t = few-calm kit (calm-submit kit r request) few
+  few-carried (Decision.Issue y name content) list t = few-calm kit (calm-faulty-issue kit r e x y name content t) few
+  few-carried (Decision.Act act) list t = few-acted act t
+  few-carried Decision.Idle list t = few
+  few-carried (Decision.Build j k) list t = rw (t .leads) (few-build kit r few _ (rw (t .leads) at (t .correct)) (rw (t .leads) at (t .free)))
+  few-carried (Decision.File j k) list t = few-file kit r few j k list (t .few)
+
 few-event : (kit : Kit) (r : Room) → FilesFew kit r → (e : Event) (list : List ℕ) → FilesFew kit (onEvent kit r e list .room)
 unfolding onEvent
-few-event kit r h (Submit request) list = few-calm kit (calm-submit kit r request) h
-few-event kit r h (Issue x name content) list = few-calm kit (calm-faulty-issue r x name content) h
-few-event kit r h (Deliver sender name value to) list = few-calm kit (calm-deliver kit r sender name value to) h
-few-event kit r h (Hand p q to) list = few-hand kit r h p q to
-few-event kit r h (Panic to) list = few-calm kit (calm-panic r to) h
-few-event kit r h Idle list = h
-few-event kit r h Build list = few-build kit r h
-few-event kit r h (File j k) list = few-file kit r h j k list
+few-event kit r few e list = few-carried kit r few e (concerned kit e) (decide kit r e) list (tested kit r e)
 
 pub few-tick : (kit : Kit) (r : Room) → FilesFew kit r → (gap : ℕ) → FilesFew kit (tick kit r gap)
 few-tick kit r h gap = few-calm kit (calm-tick kit r gap) h
@@ -196,36 +198,46 @@ files-few kit n = few-play kit (freshRoom kit) (few-fresh kit) (take n (kit .eve
 
 -- ---- event 7
 
--- what is not refused is what follows
-not-refused : (t : Bool) (a : Answer) (r : Room) (o : Outcome) → (a ≡ Taken → ⊥) → refuse t a r o .answer ≡ Taken → refuse t a r o ≡ o
-unfolding refuse
-not-refused true a r o d e = absurd (d e)
-not-refused false a r o d e = refl
-
 -- taken, the switch leader holds the history that it filed
-pub built-held : (kit : Kit) (r : Room) → afterBuild kit r .replica (switchLeader kit) .held ≡ some (length (r .histories))
+pub built-held : (kit : Kit) (r : Room) → afterBuild r (switchLeader kit) (built kit r) .replica (switchLeader kit) .held ≡ some (length (r .histories))
 unfolding afterBuild issue withReplica hold
 built-held kit r = rw (eqb-same (switchLeader kit))
 
-build-holds : (kit : Kit) (r : Room) → onBuild kit r .answer ≡ Taken → (h : ℕ) × (onBuild kit r .room .replica (switchLeader kit) .held ≡ some h)
-unfolding onBuild
-build-holds kit r e = (
-  length (r .histories),
-  ap (λ (o : Outcome). o .room .replica (switchLeader kit) .held) (not-refused _ _ r _ (λ z. no-way (cc)) e) ∙ built-held kit r,
-)
+module _ (kit : Kit) (r : Room) where
+  -- a room in which event 7 is taken
+  pub record CanBuild (list : List ℕ) : Type 0 where
+    pub correct : isFaulty (r .replica (switchLeader kit) .condition) ≡ false
+    pub free : r .replica (switchLeader kit) .held ≡ none
+    pub leaves : onEvent kit r Build list .room ≡ afterBuild r (switchLeader kit) (built kit r)
 
--- and while it holds one, event 7 is refused
-holding-refuses : (kit : Kit) (r : Room) (h : ℕ) → r .replica (switchLeader kit) .held ≡ some h → onBuild kit r .answer ≡ CannotBuild
-unfolding onBuild refuse
-holding-refuses kit r h e = simp (e, or-true)
+  pub taken-can : (list : List ℕ) → onEvent kit r Build list .answer ≡ Taken → CanBuild list
+  unfolding onEvent concerned decide decideBuild refuseIf carryOut built
+  taken-can list e =
+      let p = r .replica (switchLeader kit) in
+      let rest = isRunning (p .condition) || isSome (p .held) in
+      split (isFaulty (p .condition) || rest)
+      (λ t. no-way (cc (rw t at e)))
+      (λ t. record {
+        correct = or-l (isFaulty (p .condition)) rest t;
+        free = none-of (p .held) (or-r (isRunning (p .condition)) (isSome (p .held)) (or-r (isFaulty (p .condition)) rest t));
+        leaves = rw t;
+      })
+
+  -- while it holds one, event 7 is refused
+  holding-refuses : (list : List ℕ) (h : ℕ) → r .replica (switchLeader kit) .held ≡ some h → onEvent kit r Build list .answer ≡ CannotBuild
+  unfolding onEvent decide decideBuild refuseIf
+  holding-refuses list h e = simp (e, or-true)
 
 -- so it is taken once at the most
 pub build-once : (kit : Kit) (m n gap gap₁ : ℕ) (list list₁ : List ℕ) → m < n
     → nth (kit .events) m ≡ some (record { gap = gap; event = Build; requests = list }) → answer kit m ≡ some Taken
     → nth (kit .events) n ≡ some (record { gap = gap₁; event = Build; requests = list₁ }) → answer kit n ≡ some CannotBuild
-unfolding answer step onEvent
+unfolding answer step
 build-once kit m n gap gap₁ list list₁ l em t en =
-    let t₁ : some (onBuild kit (tick kit (after kit m) gap) .answer) ≡ some Taken = rw em at t in
-    let h = build-holds kit (tick kit (after kit m) gap) (cc) in
-    let k = after-keeps kit (suc m) n l .held (switchLeader kit) (h .0) (rw (after-suc kit m _ em) (h .1)) in
-    rw en (ap some (holding-refuses kit (tick kit (after kit n) gap₁) (h .0) (tick-keeps kit (after kit n) gap₁ .held (switchLeader kit) (h .0) k)))
+    let found = tick kit (after kit m) gap in
+    let t₁ : some (onEvent kit found Build list .answer) ≡ some Taken = rw em at t in
+    let leaves = taken-can kit found list (cc t₁) .leaves in
+    let held : after kit (suc m) .replica (switchLeader kit) .held ≡ some (length (found .histories)) =
+    rw (after-suc kit m _ em, leaves) (built-held kit found) in
+    let later = after-keeps kit (suc m) n l .held (switchLeader kit) _ held in
+    rw en (ap some (holding-refuses kit (tick kit (after kit n) gap₁) list₁ _ (tick-keeps kit (after kit n) gap₁ .held (switchLeader kit) _ later)))

@@ -28,7 +28,8 @@ use Rattle.rules.specs.laws.Halting.{TakenPanic, halts-by-panic}
 use Rattle.rules.specs.laws.Patience.{withPatience, ButLate, patience-room, patience-answer}
 use Rattle.rules.specs.laws.Idle.{idle, idle-joined-after, idle-zero}
 use Rattle.rules.specs.laws.IdleEdits.{OneIdleLess, PlaysWithout, plays-without, GoodTogether, good-together}
-use Rattle.rules.specs.laws.Order.{Delivery, isIssued, OrderFree, order-free}
+use Rattle.rules.specs.Deliver.{Delivery}
+use Rattle.rules.specs.laws.Order.{isIssued, OrderFree, order-free}
 use Rattle.rules.specs.laws.Exchange.{Exchanged, exchanged-back, PlaysExchanged, plays-exchanged, exchanged-good}
 use Rattle.rules.specs.agreement.Sizes.{Bounds, bounds, settles-one}
 

@@ -1,31 +1,24 @@
 -- Counters, submissions, their ticks and histories only grow, in every play: what stands at a value or place stands there for ever.
 -- Assumes nothing.
 use mathlib.Core.Path.{_≡_, refl, ap, _∙_}
-use mathlib.Core.Bool.{Bool, true, false, _&&_}
+use mathlib.Core.Bool.{true, _&&_}
 use mathlib.Core.Option.{some}
 use mathlib.Core.List.{List, [], _∷_, _++_}
 use Prim.Native.Nat.{ℕ, zero, suc, _+_, _-_, _≤_}
 use native.Mathlib.Omega.{arith}
-use lib.ListN.{length, take, drop}
+use lib.ListN.{take, drop}
 use lib.Seq.{take-add}
-use lib.Dec.{eqb, leb, ltb}
+use lib.Dec.{eqb}
 use borrow.Author.Tests.{eqb-true}
-use Rattle.terms.specs.Lists.{pick, nth, holds, Sub}
+use Rattle.terms.specs.Lists.{nth, holds, Sub}
 use Rattle.terms.specs.ListLaws.{no-way, pick-elim, and-l, and-r, nth-append, holds-nth, holds-at}
 use Rattle.terms.specs.Kit.{Kit, Entry}
 use Rattle.terms.specs.declared.Content.{Content}
 use Rattle.terms.specs.declared.Event.{Event}
-use Rattle.terms.specs.declared.Event.the-variants.{Submit, Issue, Deliver, Hand, Panic, Idle, Build, File}
-use Rattle.terms.specs.declared.Answer.{Answer}
-use Rattle.rules.specs.Table.{ag, up, sw}
-use Rattle.rules.specs.Reading.{isRunning}
-use Rattle.rules.specs.Room.{Room, Replica, Filing, freshRoom, accept, withClock, withLate, withReplica, issue, withHistory, remember}
+use Rattle.rules.specs.Room.{Room, Replica, Filing, freshRoom, withClock, withLate, withReplica, issue, withHistory, remember}
 use Rattle.rules.specs.Clock.{tick}
-use Rattle.rules.specs.Outcome.{Outcome, refuse}
-use Rattle.rules.specs.Submit.{afterSubmit, onSubmit, onIssue, onFile}
-use Rattle.rules.specs.Deliver.{settle, switches, afterPrepare, afterCommit, afterUpdate, afterSwitch, onAg, onUp, onSw, onDeliver}
-use Rattle.rules.specs.Switching.{onPanic, afterBuild, onBuild, afterHand, onHand}
 use Rattle.rules.specs.Play.{onEvent, step, play, after}
+use Rattle.rules.specs.laws.Changes.{Change, recorded, issued, filed, remembered, change, changed, event-comes}
 
 -- r₁ is r with more
 pub record Grows (r r₁ : Room) : Type 0 where
@@ -100,67 +93,18 @@ grows-issue r x name c =
 
 -- ---- one event
 
-module _ {r : Room} where
-  grows-refuse : (t : Bool) (a : Answer) (o : Outcome) → Grows r (o .room) → Grows r (refuse t a r o .room)
-  unfolding refuse
-  grows-refuse true a o g = grows-refl r
-  grows-refuse false a o g = g
+grows-change : (r : Room) (c : Change) → Grows r (change r c)
+grows-change r (recorded x p) = grows-withReplica r x p
+grows-change r (issued x name content) = grows-issue r x name content
+grows-change r (filed h n) = grows-withHistory r h n
+grows-change r (remembered request) = grows-remember r request
 
-  grows-either : (t : Bool) (o o₁ : Outcome) → Grows r (o .room) → Grows r (o₁ .room) → Grows r (pick t o o₁ .room)
-  grows-either true o o₁ g h = g
-  grows-either false o o₁ g h = h
-
-  grows-pick : (t : Bool) {a b : Room} → Grows r a → Grows r b → Grows r (pick t a b)
-  grows-pick true g h = g
-  grows-pick false g h = h
-
-grows-settle : (r : Room) (x : ℕ) (p : Replica) (c d : ℕ) → Grows r (settle r x p c d)
-unfolding settle
-grows-settle r x p c d = grows-pick (ltb c d) (grows-trans (grows-withReplica r x _) (grows-issue _ x _ _)) (grows-withReplica r x p)
-
-grows-submit : (kit : Kit) (r : Room) (request : ℕ) → Grows r (onSubmit kit r request .room)
-unfolding onSubmit afterSubmit
-grows-submit kit r request =
-    let g = grows-remember r request in
-    grows-refuse _ _ _ (grows-refuse _ _ _ (grows-pick (isRunning (r .replica (kit .leader) .condition))
-    (grows-trans g (grows-trans (grows-withReplica _ _ _) (grows-issue _ _ _ _))) g))
-
-grows-deliver : (kit : Kit) (r : Room) (sender name value to : ℕ) → Grows r (onDeliver kit r sender name value to .room)
-unfolding onDeliver onAg afterPrepare afterCommit onUp afterUpdate onSw afterSwitch
-grows-deliver kit r sender name value to =
-    grows-refuse _ _ _ (grows-refuse _ _ _ (grows-refuse _ _ _ (grows-refuse _ _ _ (grows-refuse _ _ _ (grows-refuse _ _ _
-    (grows-either (eqb name ag) _ _
-    (grows-either (eqb sender (kit .leader)) _ _ (grows-refuse _ _ _ (grows-trans (grows-issue r to _ _) (grows-settle _ to _ _ _)))
-    (grows-refuse _ _ _ (grows-settle r to _ _ _)))
-    (grows-either (eqb name up) _ _
-    (grows-either (leb value (length (r .replica to .noted))) _ _ (grows-refuse _ _ _ (grows-withReplica r to _))
-    (grows-refuse _ _ _ (grows-withReplica r to _)))
-    (grows-refuse _ _ _ (grows-pick (leb (kit .f) (switches kit (accept (r .replica to) sender sw value))) (grows-withReplica r to _)
-    (grows-withReplica r to _))))))))))
-
-grows-hand : (kit : Kit) (r : Room) (p q to : ℕ) → Grows r (onHand kit r p q to .room)
-unfolding onHand afterHand
-grows-hand kit r p q to =
-    grows-refuse _ _ _ (grows-refuse _ _ _ (grows-refuse _ _ _ (grows-refuse _ _ _ (grows-refuse _ _ _ (grows-refuse _ _ _
-    (grows-trans (grows-withReplica r to _) (grows-issue _ to _ _)))))))
-
-grows-build : (kit : Kit) (r : Room) → Grows r (onBuild kit r .room)
-unfolding onBuild afterBuild
-grows-build kit r =
-    grows-refuse _ _ _
-    (grows-trans (grows-withHistory r _ _)
-    (grows-trans (grows-withReplica _ _ _) (grows-trans (grows-issue _ _ _ _) (grows-trans (grows-issue _ _ _ _) (grows-issue _ _ _ _)))))
+grows-changed : (r : Room) (cs : List Change) → Grows r (changed r cs)
+grows-changed r [] = grows-refl r
+grows-changed r (c ∷ cs) = grows-trans (grows-change r c) (grows-changed (change r c) cs)
 
 pub event-grows : (kit : Kit) (r : Room) (e : Event) (list : List ℕ) → Grows r (onEvent kit r e list .room)
-unfolding onEvent onIssue onPanic onFile
-event-grows kit r (Submit request) list = grows-submit kit r request
-event-grows kit r (Issue x name content) list = grows-refuse _ _ _ (grows-refuse _ _ _ (grows-refuse _ _ _ (grows-issue r x name content)))
-event-grows kit r (Deliver sender name value to) list = grows-deliver kit r sender name value to
-event-grows kit r (Hand p q to) list = grows-hand kit r p q to
-event-grows kit r (Panic to) list = grows-refuse _ _ _ (grows-refuse _ _ _ (grows-withReplica r to _))
-event-grows kit r Idle list = grows-refl r
-event-grows kit r Build list = grows-build kit r
-event-grows kit r (File j k) list = grows-refuse _ _ _ (grows-withHistory r _ _)
+event-grows kit r e list = let few = event-comes kit r e list .few in rw (few .gives) (grows-changed r (few .changes))
 
 pub tick-grows : (kit : Kit) (r : Room) (gap : ℕ) → Grows r (tick kit r gap)
 unfolding tick withClock withLate

@@ -1,30 +1,34 @@
 -- A replica halts at a PANIC that it takes and by nothing else: neither lateness nor another event halts anybody. Assumes nothing.
 use mathlib.Core.Path.{_≡_, refl, sym, ap, _∙_}
-use mathlib.Core.Bool.{Bool, true, false, not}
-use mathlib.Core.Logic.{_≢_}
+use mathlib.Core.Logic.{_≢_, _⊎_, inl, inr, ⊎-elim}
 use mathlib.Core.Option.{some}
 use mathlib.Core.List.{List}
 use Prim.Native.Nat.{ℕ, suc}
-use lib.ListN.{length}
 use lib.Dec.{eqb, leb, ltb}
 use borrow.Author.Tests.{eqb-true}
-use Rattle.terms.specs.Lists.{pick, nth}
+use Rattle.terms.specs.Lists.{nth}
 use Rattle.terms.specs.ListLaws.{split, pick-elim, no-way}
 use Rattle.terms.specs.Kit.{Kit, Entry}
 use Rattle.terms.specs.declared.Condition.the-variants.{Halted}
 use Rattle.terms.specs.declared.Event.{Event}
-use Rattle.terms.specs.declared.Event.the-variants.{Submit, Issue, Deliver, Hand, Panic, Idle, Build, File}
+use Rattle.terms.specs.declared.Event.the-variants.{Panic}
+use Rattle.terms.specs.declared.Act.{Act}
+use Rattle.terms.specs.declared.Act.the-variants as Act
+use Rattle.terms.specs.declared.Decision.{Decision}
+use Rattle.terms.specs.declared.Decision.the-variants as Decision
 use Rattle.terms.specs.declared.Answer.{Answer}
 use Rattle.terms.specs.declared.Answer.the-variants.{Taken}
-use Rattle.rules.specs.Table.{ag, up, sw, switchLeader}
+use Rattle.rules.specs.Table.{sw}
 use Rattle.rules.specs.Room.{Room, Replica, put1, withReplica, withHistory, remember, issue, withCondition, withMark, note, notePair, accept, hold}
-use Rattle.rules.specs.Reading.{isRunning, isFaulty}
-use Rattle.rules.specs.Outcome.{Outcome, refuse}
-use Rattle.rules.specs.Submit.{afterSubmit, onSubmit, onIssue, onFile}
-use Rattle.rules.specs.Deliver.{settle, afterPrepare, afterCommit, onAg, afterUpdate, onUp, switches, afterSwitch, onSw, onDeliver}
-use Rattle.rules.specs.Switching.{onPanic, afterBuild, onBuild, afterHand, onHand}
+use Rattle.rules.specs.Reading.{isRunning}
+use Rattle.rules.specs.Outcome.{answerOf}
+use Rattle.rules.specs.Submit.{afterSubmit, afterFile}
+use Rattle.rules.specs.Deliver.{settle, afterPrepare, afterCommit, afterUpdate, switches, afterSwitch}
+use Rattle.rules.specs.Switching.{afterPanic, afterBuild, afterHand}
+use Rattle.rules.specs.Decide.{concerned, decide, acted, carryOut}
 use Rattle.rules.specs.Clock.{tick}
 use Rattle.rules.specs.Play.{onEvent, step, after, answer}
+use Rattle.rules.specs.laws.Tested.{ToAct, Tested, tested}
 use Rattle.rules.specs.laws.Growth.{after-suc}
 use Rattle.rules.specs.laws.Refused.{tick-ticked}
 
@@ -46,16 +50,6 @@ nobody-put {r} {r₁} x p e f =
           split (eqb y x) (λ t. rw (eqb-true y x t) (f (rw t at z))) (λ t. rw t at z);
     }
 
-module _ {r : Room} where
-  nobody-refuse : (t : Bool) (a : Answer) (o : Outcome) → NobodyHalts r (o .room) → NobodyHalts r (refuse t a r o .room)
-  unfolding refuse
-  nobody-refuse true a o n = record { was-halted = λ x h. h }
-  nobody-refuse false a o n = n
-
-  nobody-either : (t : Bool) (o o₁ : Outcome) → NobodyHalts r (o .room) → NobodyHalts r (o₁ .room) → NobodyHalts r (pick t o o₁ .room)
-  nobody-either true o o₁ n m = n
-  nobody-either false o o₁ n m = m
-
 nobody-submit : (kit : Kit) (r : Room) (request : ℕ) → NobodyHalts r (afterSubmit kit r request)
 unfolding afterSubmit remember withReplica issue note
 nobody-submit kit r request =
@@ -69,31 +63,6 @@ nobody-settle {r} a x p c d e same =
     let anew : (q : Replica) → put1 (a .replica) x q ≡ put1 (r .replica) x q = λ q. ap (λ (f : ℕ → Replica). put1 f x q) e in
     pick-elim (NobodyHalts r) (ltb c d) (λ t. nobody-put x _ (anew _) (λ h. sym same ∙ h)) (λ t. nobody-put x _ (anew _) (λ h. sym same ∙ h))
 
-nobody-deliver : (kit : Kit) (r : Room) (sender name value to : ℕ) → NobodyHalts r (onDeliver kit r sender name value to .room)
-unfolding onDeliver onAg afterPrepare afterCommit onUp afterUpdate onSw afterSwitch issue withReplica accept note notePair withMark withCondition
-nobody-deliver kit r sender name value to =
-    nobody-refuse _ _ _ (nobody-refuse _ _ _ (nobody-refuse _ _ _ (nobody-refuse _ _ _ (nobody-refuse _ _ _ (nobody-refuse _ _ _
-    (nobody-either (eqb name ag) _ _
-    (nobody-either (eqb sender (kit .leader)) _ _
-    (nobody-refuse _ _ _ (nobody-settle _ to _ _ _ refl refl))
-    (nobody-refuse _ _ _ (nobody-settle _ to _ _ _ refl refl)))
-    (nobody-either (eqb name up) _ _
-    (nobody-either (leb value (length (r .replica to .noted))) _ _
-    (nobody-refuse _ _ _ (nobody-put to _ refl (λ h. h)))
-    (nobody-refuse _ _ _ (nobody-put to _ refl (λ h. h))))
-    (nobody-refuse _ _ _ (pick-elim (NobodyHalts r) (leb (kit .f) (switches kit (accept (r .replica to) sender sw value)))
-    (λ t. nobody-put to _ refl (λ h. no-way (cc (h)))) (λ t. nobody-put to _ refl (λ h. h)))))))))))
-
-nobody-hand : (kit : Kit) (r : Room) (p q to : ℕ) → NobodyHalts r (onHand kit r p q to .room)
-unfolding onHand afterHand withReplica issue hold
-nobody-hand kit r p q to =
-    nobody-refuse _ _ _ (nobody-refuse _ _ _ (nobody-refuse _ _ _ (nobody-refuse _ _ _ (nobody-refuse _ _ _ (nobody-refuse _ _ _
-    (nobody-put to _ refl (λ h. h)))))))
-
-nobody-build : (kit : Kit) (r : Room) → NobodyHalts r (onBuild kit r .room)
-unfolding onBuild afterBuild withHistory withReplica issue hold
-nobody-build kit r = nobody-refuse _ _ _ (nobody-put (switchLeader kit) _ refl (λ h. h))
-
 -- event e, answered a, is a PANIC that x takes
 pub record TakenPanic (e : Event) (a : Answer) (x : ℕ) : Type 0 where
   pub panic : e ≡ Panic x
@@ -103,26 +72,43 @@ pub record TakenPanic (e : Event) (a : Answer) (x : ℕ) : Type 0 where
 abbrev Halts : Room → Room → ℕ → Type 0
 Halts r r₁ x = (r .replica x .condition ≢ Halted) × (r₁ .replica x .condition ≡ Halted)
 
-by-panic : (r : Room) (to x : ℕ) → Halts r (onPanic r to .room) x → TakenPanic (Panic to) (onPanic r to .answer) x
-unfolding onPanic refuse withReplica
-by-panic r to x h =
-    split (isFaulty (r .replica to .condition)) (λ t. absurd (h .0 (rw t at (h .1))))
-    (λ t. split (not (isRunning (r .replica to .condition))) (λ u. absurd (h .0 (rw (t, u) at (h .1))))
-    (λ u. split (eqb x to) (λ v. record { panic = ap Panic (sym (eqb-true x to v)); taken = rw (t, u) })
-    (λ v. absurd (h .0 (rw (t, u, v) at (h .1))))))
+-- what is done otherwise halts nobody
+module _ (kit : Kit) (r : Room) (e : Event) (y : ℕ) where
+  acted-nobody : (act : Act) → ToAct kit r e y act → NobodyHalts r (acted kit r y act) ⊎ ((x : ℕ) → Halts r (acted kit r y act) x → e ≡ Panic x)
+  unfolding acted afterPrepare afterCommit afterUpdate afterSwitch afterHand afterPanic issue withReplica accept note notePair withMark withCondition hold
+  acted-nobody (Act.Prepare sender value request) t = inl (nobody-settle _ y _ _ _ refl refl)
+  acted-nobody (Act.Commit sender value) t = inl (nobody-settle _ y _ _ _ refl refl)
+  acted-nobody (Act.KnownPair sender value) t = inl (nobody-put y _ refl (λ z. z))
+  acted-nobody (Act.NewPair sender value request mark) t = inl (nobody-put y _ refl (λ z. z))
+  acted-nobody (Act.Switch sender value) t =
+      inl (pick-elim (NobodyHalts r) (leb (kit .f) (switches kit (accept (r .replica y) sender sw value)))
+      (λ closes. nobody-put y _ refl (λ z. no-way (cc (z)))) (λ waits. nobody-put y _ refl (λ z. z)))
+  acted-nobody (Act.Hand history) t = inl (nobody-put y _ refl (λ z. z))
+  acted-nobody Act.Panic t =
+      inr (λ x h. split (eqb x y) (λ is. rw (eqb-true x y is) (t .event)) (λ other. absurd (h .0 (rw other at (h .1)))))
+
+  nobody-builds : (j k : ℕ) (list : List ℕ) → NobodyHalts r (carryOut kit r y (Decision.Build j k) list)
+  unfolding carryOut afterBuild issue withHistory withReplica hold
+  nobody-builds j k list = nobody-put y _ refl (λ z. z)
+
+module _ (kit : Kit) (r : Room) (e : Event) (y x : ℕ) where
+  acted-halts : (act : Act) → ToAct kit r e y act → Halts r (acted kit r y act) x → e ≡ Panic x
+  acted-halts act t h = ⊎-elim (λ n. absurd (h .0 (n .was-halted x (h .1)))) (λ by. by x h) (acted-nobody kit r e y act t)
+
+  carried-halts : (d : Decision) (list : List ℕ) → Tested kit r e y d → Halts r (carryOut kit r y d list) x → TakenPanic e (answerOf d) x
+  unfolding carryOut afterFile issue withHistory
+  carried-halts (Decision.Refuse answer) list t h = absurd (h .0 (h .1))
+  carried-halts (Decision.Submit request) list t h = absurd (h .0 (nobody-submit kit r request .was-halted x (h .1)))
+  carried-halts (Decision.Issue z name content) list t h = absurd (h .0 (h .1))
+  carried-halts (Decision.Act act) list t h = record { panic = acted-halts act t h; taken = refl }
+  carried-halts Decision.Idle list t h = absurd (h .0 (h .1))
+  carried-halts (Decision.Build j k) list t h = absurd (h .0 (nobody-builds kit r e y j k list .was-halted x (h .1)))
+  carried-halts (Decision.File j k) list t h = absurd (h .0 (h .1))
 
 event-halts : (kit : Kit) (r : Room) (e : Event) (list : List ℕ) (x : ℕ) → Halts r (onEvent kit r e list .room) x
     → TakenPanic e (onEvent kit r e list .answer) x
-unfolding onEvent onSubmit onIssue onFile issue withHistory
-event-halts kit r (Submit request) list x h = absurd (h .0 (nobody-refuse _ _ _ (nobody-refuse _ _ _ (nobody-submit kit r request)) .was-halted x (h .1)))
-event-halts kit r (Issue y name content) list x h =
-    absurd (h .0 (nobody-refuse _ _ _ (nobody-refuse _ _ _ (nobody-refuse _ _ _ (nobody-same refl))) .was-halted x (h .1)))
-event-halts kit r (Deliver sender name value to) list x h = absurd (h .0 (nobody-deliver kit r sender name value to .was-halted x (h .1)))
-event-halts kit r (Hand p q to) list x h = absurd (h .0 (nobody-hand kit r p q to .was-halted x (h .1)))
-event-halts kit r (Panic to) list x h = by-panic r to x h
-event-halts kit r Idle list x h = absurd (h .0 (h .1))
-event-halts kit r Build list x h = absurd (h .0 (nobody-build kit r .was-halted x (h .1)))
-event-halts kit r (File j k) list x h = absurd (h .0 (nobody-refuse _ _ _ (nobody-same refl) .was-halted x (h .1)))
+unfolding onEvent
+event-halts kit r e list x h = carried-halts kit r e (concerned kit e) x (decide kit r e) list (tested kit r e) h
 
 -- with the clock before it
 pub step-halts : (kit : Kit) (r : Room) (e : Entry) (x : ℕ) → r .replica x .condition ≢ Halted → step kit r e .room .replica x .condition ≡ Halted

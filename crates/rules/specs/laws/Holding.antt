@@ -1,36 +1,39 @@
 -- What stays with a replica once it has it: a held history, a closed condition, being faulty. In every play of any kit. Assumes nothing.
 use mathlib.Core.Path.{_≡_, refl, sym, ap, _∙_}
-use mathlib.Core.Bool.{Bool, true, false, _&&_, or-true}
+use mathlib.Core.Bool.{Bool, true, false, _&&_}
 use mathlib.Core.Logic.{_≢_}
-use mathlib.Core.Option.{Option, none, some}
+use mathlib.Core.Option.{none, some}
 use mathlib.Core.List.{List, [], _∷_, _++_}
-use Prim.Native.Nat.{ℕ, _+_, _≤_, _<_}
+use Prim.Native.Nat.{ℕ, _≤_, _<_}
 use native.Mathlib.Omega.{arith}
 use lib.ListN.{length, getD}
 use lib.Dec.{eqb, ltb, leb}
-use borrow.Author.Tests.{eqb-true, ne-eqb, leb-false}
+use borrow.Author.Tests.{eqb-true, ne-eqb}
 use Rattle.terms.specs.Limits.{placesMax}
-use Rattle.terms.specs.Lists.{pick, isSome}
-use Rattle.terms.specs.ListLaws.{split, pick-elim, no-way, length-snoc, not-was-false, or-l}
+use Rattle.terms.specs.Lists.{pick}
+use Rattle.terms.specs.ListLaws.{split, pick-elim, no-way, length-snoc}
 use Rattle.terms.specs.Mark.{nextMark}
 use Rattle.terms.specs.Kit.{Kit, Entry}
 use Rattle.terms.specs.declared.Content.{Content}
 use Rattle.terms.specs.declared.Event.{Event}
-use Rattle.terms.specs.declared.Event.the-variants.{Submit, Issue, Deliver, Hand, Panic, Idle, Build, File}
-use Rattle.terms.specs.declared.Answer.{Answer}
-use Rattle.rules.specs.Table.{ag, up, sw, switchLeader}
+use Rattle.terms.specs.declared.Act.{Act}
+use Rattle.terms.specs.declared.Act.the-variants as Act
+use Rattle.terms.specs.declared.Decision.{Decision}
+use Rattle.terms.specs.declared.Decision.the-variants as Decision
+use Rattle.rules.specs.Table.{ag, up, sw}
 use Rattle.rules.specs.Room.{Room, Replica, withClock, withLate, withReplica, issue, withHistory, remember}
 use Rattle.rules.specs.Room.{withCondition, withMark, note, notePair, accept, hold}
 use Rattle.rules.specs.laws.RoomLaws.{replica-other, counter-other}
 use Rattle.rules.specs.Reading.{isRunning, isClosed, isFaulty}
 use Rattle.rules.specs.laws.ReadingLaws.{running-open, running-correct}
 use Rattle.rules.specs.Clock.{tick}
-use Rattle.rules.specs.Outcome.{Outcome, refuse}
-use Rattle.rules.specs.Submit.{afterSubmit, onSubmit, onIssue, onFile}
-use Rattle.rules.specs.Deliver.{settle, afterPrepare, afterCommit, onAg, afterUpdate, onUp, switches, afterSwitch, onSw, onDeliver}
-use Rattle.rules.specs.Switching.{onPanic, afterBuild, onBuild, afterHand, onHand}
+use Rattle.rules.specs.Submit.{afterSubmit, afterFile}
+use Rattle.rules.specs.Deliver.{settle, afterPrepare, afterCommit, afterUpdate, switches, afterSwitch}
+use Rattle.rules.specs.Switching.{afterPanic, afterBuild, afterHand}
+use Rattle.rules.specs.Decide.{concerned, decide, acted, carryOut}
 use Rattle.rules.specs.Play.{onEvent, step, play, after}
 use Rattle.rules.specs.laws.Growth.{after-later}
+use Rattle.rules.specs.laws.Tested.{ToAct, ToIssue, Tested, tested}
 
 -- ---- what stays
 
@@ -163,16 +166,6 @@ pub calm-tick : (kit : Kit) (r : Room) (gap : ℕ) → Calm r (tick kit r gap)
 unfolding tick withClock withLate
 calm-tick kit r gap = calm-same refl refl refl refl
 
-module _ (r : Room) where
-  calm-refuse : (t : Bool) (a : Answer) (o : Outcome) → (t ≡ false → Calm r (o .room)) → Calm r (refuse t a r o .room)
-  unfolding refuse
-  calm-refuse true a o c = calm-refl r
-  calm-refuse false a o c = c refl
-
-  calm-either : (t : Bool) (o o₁ : Outcome) → Calm r (o .room) → Calm r (o₁ .room) → Calm r (pick t o o₁ .room)
-  calm-either true o o₁ c d = c
-  calm-either false o o₁ c d = d
-
 -- x settles: its record becomes p, and it may issue on up
 calm-settle : (r : Room) (x : ℕ) (p : Replica) (c d : ℕ) → p .held ≡ r .replica x .held → p .condition ≡ r .replica x .condition
     → isFaulty (r .replica x .condition) ≡ false
@@ -184,10 +177,9 @@ calm-settle r x p c d eh ec fx =
     calm-trans moved (calm-issue _ x up _ (omega arith) (moved .faulty-same x ∙ fx)))
     (λ t. calm-record r x p eh (λ e. rw ec e) (ap isFaulty ec ∙ fx) fx)
 
-pub calm-submit : (kit : Kit) (r : Room) (request : ℕ) → Calm r (onSubmit kit r request .room)
-unfolding onSubmit afterSubmit note remember
+pub calm-submit : (kit : Kit) (r : Room) (request : ℕ) → Calm r (afterSubmit kit r request)
+unfolding afterSubmit note remember
 calm-submit kit r request =
-    calm-refuse r _ _ _ λ e₁. calm-refuse r _ _ _ λ e₂.
     let leader = kit .leader in
     let asked = remember r request in
     pick-elim (λ z. Calm r z) (isRunning (r .replica leader .condition))
@@ -198,42 +190,35 @@ calm-submit kit r request =
     (noted .faulty-same leader ∙ run))))
     (λ t. calm-remember r request)
 
-pub calm-deliver : (kit : Kit) (r : Room) (sender name value to : ℕ) → Calm r (onDeliver kit r sender name value to .room)
-unfolding onDeliver onAg afterPrepare afterCommit onUp afterUpdate onSw afterSwitch accept note notePair withMark withCondition issue
-calm-deliver kit r sender name value to =
-    calm-refuse r _ _ _ λ fx. calm-refuse r _ _ _ λ e₁. calm-refuse r _ _ _ λ e₂. calm-refuse r _ _ _ λ e₃. calm-refuse r _ _ _ λ e₄.
-    calm-refuse r _ _ _ λ e₅.
-    calm-either r (eqb name ag) _ _
-    (calm-either r (eqb sender (kit .leader)) _ _
-    (calm-refuse r _ _ _ λ e. calm-trans (calm-issue r to ag _ (omega arith) fx) (calm-settle _ to _ _ _ refl refl fx))
-    (calm-refuse r _ _ _ λ e. calm-settle r to _ _ _ refl refl fx))
-    (calm-either r (eqb name up) _ _
-    (calm-either r (leb value (length (r .replica to .noted))) _ _
-    (calm-refuse r _ _ _ λ e. calm-record r to _ refl (λ e. e) fx fx)
-    (calm-refuse r _ _ _ λ e. calm-record r to _ refl (λ e. e) fx fx))
-    (calm-refuse r _ _ _ λ e.
-    pick-elim (λ z. Calm r z) (leb (kit .f) (switches kit (accept (r .replica to) sender sw value)))
-    (λ t. calm-record r to _ refl (λ e. refl) refl fx)
-    (λ t. calm-record r to _ refl (λ e. e) fx fx)))
+-- whether the replica takes hold of a history
+abbrev pub takesHold : Act → Bool
+takesHold (Act.Prepare sender value request) = false
+takesHold (Act.Commit sender value) = false
+takesHold (Act.KnownPair sender value) = false
+takesHold (Act.NewPair sender value request mark) = false
+takesHold (Act.Switch sender value) = false
+takesHold (Act.Hand history) = true
+takesHold Act.Panic = false
 
-pub calm-panic : (r : Room) (to : ℕ) → Calm r (onPanic r to .room)
-unfolding onPanic withCondition
-calm-panic r to =
-    calm-refuse r _ _ _ λ fx. calm-refuse r _ _ _ λ e.
-    calm-record r to _ refl (λ d. no-way (cc (running-open (r .replica to .condition) (not-was-false (isRunning (r .replica to .condition)) e))))
-    refl fx
+module _ (kit : Kit) (r : Room) (e : Event) (x : ℕ) where
+  pub calm-acted : (act : Act) → takesHold act ≡ false → ToAct kit r e x act → Calm r (acted kit r x act)
+  unfolding acted afterPrepare afterCommit afterUpdate afterSwitch afterPanic accept note notePair withMark withCondition issue
+  calm-acted (Act.Prepare sender value request) n t =
+      let fx = t .delivered .correct in calm-trans (calm-issue r x ag _ (omega arith) fx) (calm-settle _ x _ _ _ refl refl fx)
+  calm-acted (Act.Commit sender value) n t = calm-settle r x _ _ _ refl refl (t .delivered .correct)
+  calm-acted (Act.KnownPair sender value) n t = let fx = t .delivered .correct in calm-record r x _ refl (λ d. d) fx fx
+  calm-acted (Act.NewPair sender value request mark) n t = let fx = t .delivered .correct in calm-record r x _ refl (λ d. d) fx fx
+  calm-acted (Act.Switch sender value) n t =
+      let fx = t .delivered .correct in
+      pick-elim (λ z. Calm r z) (leb (kit .f) (switches kit (accept (r .replica x) sender sw value)))
+      (λ closes. calm-record r x _ refl (λ d. refl) refl fx) (λ waits. calm-record r x _ refl (λ d. d) fx fx)
+  calm-acted (Act.Hand history) n t = no-way (cc (n))
+  calm-acted Act.Panic n t = calm-record r x _ refl (λ d. no-way (cc (running-open (r .replica x .condition) (t .running), d))) refl (t .correct)
 
-pub calm-faulty-issue : (r : Room) (x name : ℕ) (c : Content) → Calm r (onIssue r x name c .room)
-unfolding onIssue
-calm-faulty-issue r x name c =
-    calm-refuse r _ _ _ λ f. calm-refuse r _ _ _ λ e₁. calm-refuse r _ _ _ λ e₂.
-    calm-faulty r x name c (not-was-false (isFaulty (r .replica x .condition)) f) (leb-false placesMax (length (r .counter x name)) e₂)
+  pub calm-faulty-issue : (y name : ℕ) (content : Content) → ToIssue kit r e x y name content → Calm r (issue r y name content)
+  calm-faulty-issue y name content t = calm-faulty r y name content (t .faulty) (t .few)
 
 -- ---- every event
-
-pub none-of : (o : Option ℕ) → isSome o ≡ false → o ≡ none
-none-of none e = refl
-none-of (some n) e = no-way (cc)
 
 -- a replica that holds nothing takes hold of a history
 keeps-hold : (r : Room) (x h : ℕ) → isFaulty (r .replica x .condition) ≡ false → r .replica x .held ≡ none → Keeps r (withReplica r x (hold (r .replica x) h))
@@ -250,45 +235,30 @@ keeps-hold r x h fx free =
 keeps-records : {r a b : Room} → b .replica ≡ a .replica → Keeps r a → Keeps r b
 keeps-records e k = record { held = rw e (k .held); closed = rw e (k .closed); faulty = rw e (k .faulty); untouched = rw e (k .untouched) }
 
-keeps-refuse : (r : Room) (t : Bool) (a : Answer) (o : Outcome) → (t ≡ false → Keeps r (o .room)) → Keeps r (refuse t a r o .room)
-unfolding refuse
-keeps-refuse r true a o k = keeps-refl r
-keeps-refuse r false a o k = k refl
+module _ (kit : Kit) (r : Room) (e : Event) (x : ℕ) where
+  keeps-acted : (act : Act) → ToAct kit r e x act → Keeps r (acted kit r x act)
+  unfolding acted afterHand issue
+  keeps-acted (Act.Prepare sender value request) t = calm-keeps (calm-acted kit r e x (Act.Prepare sender value request) refl t)
+  keeps-acted (Act.Commit sender value) t = calm-keeps (calm-acted kit r e x (Act.Commit sender value) refl t)
+  keeps-acted (Act.KnownPair sender value) t = calm-keeps (calm-acted kit r e x (Act.KnownPair sender value) refl t)
+  keeps-acted (Act.NewPair sender value request mark) t = calm-keeps (calm-acted kit r e x (Act.NewPair sender value request mark) refl t)
+  keeps-acted (Act.Switch sender value) t = calm-keeps (calm-acted kit r e x (Act.Switch sender value) refl t)
+  keeps-acted (Act.Hand history) t = keeps-records refl (keeps-hold r x history (t .correct) (t .free))
+  keeps-acted Act.Panic t = calm-keeps (calm-acted kit r e x Act.Panic refl t)
 
-keeps-hand : (kit : Kit) (r : Room) (p q to : ℕ) → Keeps r (onHand kit r p q to .room)
-unfolding onHand afterHand issue
-keeps-hand kit r p q to =
-    keeps-refuse r _ _ _ λ fx. keeps-refuse r _ _ _ λ e₂. keeps-refuse r _ _ _ λ late. keeps-refuse r _ _ _ λ e₃. keeps-refuse r _ _ _ λ e₄.
-    keeps-refuse r _ _ _ λ e₅.
-    keeps-records refl (keeps-hold r to _ fx (none-of (r .replica to .held)
-    (or-l (isSome (r .replica to .held)) (isClosed (r .replica to .condition)) late)))
-
--- a test that passed, and that a held history would have failed
-pub free-of : (t : Bool) (held : Option ℕ) → ((h : ℕ) → held ≡ some h → t ≡ true) → t ≡ false → held ≡ none
-free-of t none f e = refl
-free-of t (some h) f e = no-way (cc (f h refl))
-
-keeps-build : (kit : Kit) (r : Room) → Keeps r (onBuild kit r .room)
-unfolding onBuild afterBuild issue withReplica withHistory
-keeps-build kit r =
-    keeps-refuse r _ _ _ λ e. keeps-records refl (keeps-hold r (switchLeader kit) _
-    (or-l (isFaulty (r .replica (switchLeader kit) .condition)) _ e)
-    (free-of _ (r .replica (switchLeader kit) .held) (λ h eh. simp (eh, or-true)) e))
-
-keeps-file : (r : Room) (j k : ℕ) (list : List ℕ) → Keeps r (onFile r j k list .room)
-unfolding onFile withHistory
-keeps-file r j k list = keeps-refuse r _ _ _ λ e. keeps-records refl (keeps-refl r)
+  keeps-carried : (d : Decision) (list : List ℕ) → Tested kit r e x d → Keeps r (carryOut kit r x d list)
+  unfolding carryOut afterBuild afterFile issue withReplica withHistory
+  keeps-carried (Decision.Refuse answer) list t = keeps-refl r
+  keeps-carried (Decision.Submit request) list t = calm-keeps (calm-submit kit r request)
+  keeps-carried (Decision.Issue y name content) list t = calm-keeps (calm-faulty-issue kit r e x y name content t)
+  keeps-carried (Decision.Act act) list t = keeps-acted act t
+  keeps-carried Decision.Idle list t = keeps-refl r
+  keeps-carried (Decision.Build j k) list t = keeps-records refl (keeps-hold r x _ (t .correct) (t .free))
+  keeps-carried (Decision.File j k) list t = keeps-records refl (keeps-refl r)
 
 pub event-keeps : (kit : Kit) (r : Room) (e : Event) (list : List ℕ) → Keeps r (onEvent kit r e list .room)
 unfolding onEvent
-event-keeps kit r (Submit request) list = calm-keeps (calm-submit kit r request)
-event-keeps kit r (Issue x name content) list = calm-keeps (calm-faulty-issue r x name content)
-event-keeps kit r (Deliver sender name value to) list = calm-keeps (calm-deliver kit r sender name value to)
-event-keeps kit r (Hand p q to) list = keeps-hand kit r p q to
-event-keeps kit r (Panic to) list = calm-keeps (calm-panic r to)
-event-keeps kit r Idle list = keeps-refl r
-event-keeps kit r Build list = keeps-build kit r
-event-keeps kit r (File j k) list = keeps-file r j k list
+event-keeps kit r e list = keeps-carried kit r e (concerned kit e) (decide kit r e) list (tested kit r e)
 
 pub tick-keeps : (kit : Kit) (r : Room) (gap : ℕ) → Keeps r (tick kit r gap)
 tick-keeps kit r gap = calm-keeps (calm-tick kit r gap)

@@ -18,6 +18,7 @@ use Rattle.rules.specs.Room.{Room, freshRoom, withClock, withLate, withR
 use Rattle.rules.specs.Reading.{answered, answeredAt}
 use Rattle.rules.specs.Clock.{overdue, tick}
 use Rattle.rules.specs.Outcome.{taken}
+use Rattle.rules.specs.Decide.{decide, carryOut}
 use Rattle.rules.specs.Play.{onEvent, step, play, after}
 use Rattle.rules.specs.laws.Growth.{grows-issue}
 use Rattle.rules.specs.laws.Moments.{always-keeps}
@@ -93,7 +94,7 @@ tick-joined kit r w a b =
 -- two idles leave the room, and have the answer, of one
 pub idle-joined
     : (kit : Kit) (r : Room) → NeverFall (r .ticks) → (a b : ℕ) → step kit (step kit r (idle a) .room) (idle b) ≡ step kit r (idle (a + b))
-unfolding step onEvent
+unfolding step onEvent decide carryOut
 idle-joined kit r w a b = ap taken (tick-joined kit r w a b)
 
 -- in every room that a kit reaches
@@ -187,5 +188,5 @@ tick-zero kit r w =
 
 -- an idle of 0 leaves every room that a kit reaches as it is
 pub idle-zero : (kit : Kit) → 1 ≤ kit .patience → (n : ℕ) → step kit (after kit n) (idle 0) ≡ taken (after kit n)
-unfolding step onEvent
+unfolding step onEvent decide carryOut
 idle-zero kit low n = ap taken (tick-zero kit (after kit n) (quiet kit low n))

@@ -15,6 +15,7 @@ use Rattle.terms.specs.Kit.{Kit, Entry, GoodEntry, GoodKit}
 use Rattle.terms.specs.declared.Answer.the-variants.{Taken}
 use Rattle.rules.specs.Clock.{tick}
 use Rattle.rules.specs.Outcome.{Outcome}
+use Rattle.rules.specs.Decide.{decide, carryOut}
 use Rattle.rules.specs.Play.{onEvent, step, play, after, answer}
 use Rattle.rules.specs.laws.Growth.{after-suc}
 use Rattle.rules.specs.laws.Idle.{idle, idle-joined-after, idle-zero}
@@ -50,7 +51,7 @@ pub record PlaysWithout (n : ℕ) (kit kit₁ : Kit) : Type 0 where
   pub room-last : after kit₁ (length (kit₁ .events)) ≡ after kit (length (kit .events))
 
 idles-at : (kit : Kit) → 1 ≤ kit .patience → (n gap : ℕ) → nth (kit .events) n ≡ some (idle gap) → IdlesAt n gap kit
-unfolding answer step onEvent
+unfolding answer step onEvent decide carryOut
 idles-at kit low n gap is =
     let room = after-suc kit n (idle gap) is in
     record {

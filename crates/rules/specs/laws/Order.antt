@@ -18,20 +18,13 @@ use Rattle.rules.specs.Room.{Room}
 use Rattle.rules.specs.Reading.{contentAt}
 use Rattle.rules.specs.Clock.{tick}
 use Rattle.rules.specs.Outcome.{Outcome}
-use Rattle.rules.specs.Deliver.{onDeliver}
+use Rattle.rules.specs.Deliver.{Delivery}
 use Rattle.rules.specs.Play.{onEvent, step}
 use Rattle.rules.specs.laws.Growth.{Grows, event-grows}
 use Rattle.rules.specs.laws.Refused.{tick-ticked}
 use Rattle.rules.specs.laws.Answered.{answered-stays}
 use Rattle.rules.specs.laws.Idle.{Quiet, tick-quiet, overdue-kept, tick-zero}
 use Rattle.rules.specs.laws.Own.{Own, withOwn, own-apart, SameOutcome, SeesSame, same-delivery}
-
--- a certificate, named by its replica, name and value, and the replica that it is delivered to
-pub record Delivery : Type 0 where
-  pub sender : ℕ
-  pub name : ℕ
-  pub value : ℕ
-  pub to : ℕ
 
 -- the event 3 of this gap
 abbrev pub delivery : ℕ → Delivery → Entry
@@ -49,12 +42,11 @@ abbrev pub isIssued : Room → Delivery → Bool
 isIssued r d = isSome (contentAt (r .counter (d .sender) (d .name)) (d .value))
 
 abbrev deliver : Kit → Room → Delivery → Outcome
-deliver kit r d = onDeliver kit r (d .sender) (d .name) (d .value) (d .to)
+deliver kit r d = onEvent kit r (Deliver (d .sender) (d .name) (d .value) (d .to)) []
 
 -- ---- one delivery
 
 deliver-grows : (kit : Kit) (r : Room) (d : Delivery) → Grows r (deliver kit r d .room)
-unfolding onEvent
 deliver-grows kit r d = event-grows kit r (Deliver (d .sender) (d .name) (d .value) (d .to)) []
 
 -- it changes its receiver's own and nothing else
@@ -62,7 +54,7 @@ deliver-own : (kit : Kit) (r : Room) (d : Delivery) → (own : Own) × (deliver 
 deliver-own kit r d =
     let same : SeesSame (d .sender) (d .name) (d .value) (d .to) r r =
     record { content = refl; own-record = refl; own-counter = refl; submitted = refl; histories = refl } in
-    let s = same-delivery kit r r (d .sender) (d .name) (d .value) (d .to) same in
+    let s = same-delivery kit r r (d .sender) (d .name) (d .value) (d .to) same [] in
     (s .becomes, s .room)
 
 -- nobody is overdue after it who was not before it
@@ -107,10 +99,10 @@ sees-same kit r a b apart there =
 
 module _ (kit : Kit) (r : Room) (a b : Delivery) (apart : a .to ≢ b .to) (a-there : isIssued r a ≡ true) (b-there : isIssued r b ≡ true) where
   a-same : SameOutcome (a .to) r (deliver kit r b .room) (deliver kit r a) (deliver kit (deliver kit r b .room) a)
-  a-same = same-delivery kit r (deliver kit r b .room) (a .sender) (a .name) (a .value) (a .to) (sees-same kit r a b apart a-there)
+  a-same = same-delivery kit r (deliver kit r b .room) (a .sender) (a .name) (a .value) (a .to) (sees-same kit r a b apart a-there) []
 
   b-same : SameOutcome (b .to) r (deliver kit r a .room) (deliver kit r b) (deliver kit (deliver kit r a .room) b)
-  b-same = same-delivery kit r (deliver kit r a .room) (b .sender) (b .name) (b .value) (b .to) (sees-same kit r b a (λ e. apart (sym e)) b-there)
+  b-same = same-delivery kit r (deliver kit r a .room) (b .sender) (b .name) (b .value) (b .to) (sees-same kit r b a (λ e. apart (sym e)) b-there) []
 
   same-room : deliver kit (deliver kit r a .room) b .room ≡ deliver kit (deliver kit r b .room) a .room
   same-room =
@@ -138,7 +130,7 @@ pub record OrderFree (kit : Kit) (r : Room) (gap : ℕ) (a b : Delivery) : Type 
 second-step
     : (kit : Kit) (r : Room) (gap : ℕ) (a b : Delivery)
     → step kit (step kit r (delivery gap a) .room) (delivery 0 b) ≡ deliver kit (deliver kit (tick kit r gap) a .room) b
-unfolding step onEvent
+unfolding step
 second-step kit r gap a b =
     ap (λ (z : Room). deliver kit z b)
     (tick-zero kit (deliver kit (tick kit r gap) a .room) (deliver-quiet kit (tick kit r gap) a (tick-quiet kit r gap)))
@@ -146,7 +138,7 @@ second-step kit r gap a b =
 -- in every room, at every patience
 pub order-free
     : (kit : Kit) (r : Room) (gap : ℕ) (a b : Delivery) → a .to ≢ b .to → isIssued r a ≡ true → isIssued r b ≡ true → OrderFree kit r gap a b
-unfolding step onEvent
+unfolding step
 order-free kit r gap a b apart a-there b-there =
     let ticked = tick kit r gap in
     let there : (d : Delivery) → isIssued r d ≡ true → isIssued ticked d ≡ true =

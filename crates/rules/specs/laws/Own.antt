@@ -5,20 +5,27 @@ use mathlib.Core.Bool.{Bool, true, false}
 use mathlib.Core.Logic.{_≢_}
 use mathlib.Core.List.{List, [], _∷_, _++_}
 use Prim.Native.Nat.{ℕ}
-use lib.ListN.{length}
 use lib.Dec.{eqb, leb, ltb}
-use Rattle.terms.specs.Lists.{pick, holds}
-use Rattle.terms.specs.ListLaws.{split, eqb-same}
+use Rattle.terms.specs.Lists.{pick}
+use Rattle.terms.specs.ListLaws.{split, no-way, eqb-same}
 use Rattle.terms.specs.Kit.{Kit}
 use Rattle.terms.specs.declared.Content.{Content}
-use Rattle.terms.specs.declared.Answer.{Answer}
+use Rattle.terms.specs.declared.Event.the-variants.{Deliver}
+use Rattle.terms.specs.declared.Act.{Act}
+use Rattle.terms.specs.declared.Act.the-variants as Act
+use Rattle.terms.specs.declared.Decision.{Decision}
+use Rattle.terms.specs.declared.Decision.the-variants as Decision
 use Rattle.rules.specs.Table.{ag, up, sw}
 use Rattle.rules.specs.Room.{Room, Replica, put1, withReplica, issue, accept}
-use Rattle.rules.specs.Reading.{contentAt, firstOf}
+use Rattle.rules.specs.Reading.{contentAt}
 use Rattle.rules.specs.laws.RoomLaws.{put-back, put-again, put-apart}
 use Rattle.rules.specs.laws.ReadingLaws.{held-same}
-use Rattle.rules.specs.Outcome.{Outcome, refuse, taken}
-use Rattle.rules.specs.Deliver.{settle, switches, afterPrepare, afterCommit, onAg, afterUpdate, onUp, afterSwitch, onSw, expectsPrepare, expectsUpdate, onDeliver}
+use Rattle.rules.specs.Outcome.{Outcome, taken}
+use Rattle.rules.specs.Deliver.{settle, switches, afterPrepare, afterCommit, afterUpdate, afterSwitch}
+use Rattle.rules.specs.Switching.{afterPanic, afterHand}
+use Rattle.rules.specs.Decide.{concerned, decide, acted, carryOut, done}
+use Rattle.rules.specs.Play.{onEvent}
+use Rattle.rules.specs.laws.Tested.{Tested, tested}
 
 -- ---- the room with one replica's own anew
 
@@ -126,15 +133,6 @@ module _ {x : ℕ} {r r₁ : Room} where
   same-taken : {a a₁ : Room} → Alike x r r₁ a a₁ → SameOutcome x r r₁ (taken a) (taken a₁)
   same-taken h = record { answer = refl; becomes = h .becomes; room = h .room; room₁ = h .room₁ }
 
-  same-refused : Alike x r r₁ r r₁ → (t : Bool) (a : Answer) {o o₁ : Outcome} → SameOutcome x r r₁ o o₁ → SameOutcome x r r₁ (refuse t a r o) (refuse t a r₁ o₁)
-  unfolding refuse
-  same-refused h true a s = record { answer = refl; becomes = h .becomes; room = h .room; room₁ = h .room₁ }
-  same-refused h false a s = s
-
-  same-either : (t : Bool) {o o₁ u u₁ : Outcome} → SameOutcome x r r₁ o o₁ → SameOutcome x r r₁ u u₁ → SameOutcome x r r₁ (pick t o u) (pick t o₁ u₁)
-  same-either true s w = s
-  same-either false s w = w
-
 -- a delivery looks at the same in both rooms
 pub record SeesSame (sender name value to : ℕ) (r r₁ : Room) : Type 0 where
   pub content : contentAt (r₁ .counter sender name) value ≡ contentAt (r .counter sender name) value
@@ -143,23 +141,38 @@ pub record SeesSame (sender name value to : ℕ) (r r₁ : Room) : Type 0 where
   pub submitted : r₁ .submitted ≡ r .submitted
   pub histories : r₁ .histories ≡ r .histories
 
-pub same-delivery
-    : (kit : Kit) (r r₁ : Room) (sender name value to : ℕ) → SeesSame sender name value to r r₁
-    → SameOutcome to r r₁ (onDeliver kit r sender name value to) (onDeliver kit r₁ sender name value to)
-unfolding onDeliver onAg onUp onSw expectsPrepare expectsUpdate afterPrepare afterCommit afterUpdate afterSwitch accept
-same-delivery kit r r₁ sender name value to w =
-    let same = alike-none (w .own-record) (w .own-counter) in
-    let p = r .replica to in
-    let request = firstOf (contentAt (r .counter sender name) value) in
-    rw (w .content, w .own-record, w .own-counter, ap (holds request) (w .submitted))
-    (same-refused same _ _ (same-refused same _ _ (same-refused same _ _ (same-refused same _ _ (same-refused same _ _ (same-refused same _ _
-    (same-either (eqb name ag)
-    (same-either (eqb sender (kit .leader))
-    (same-refused same _ _ (same-taken (alike-settled _ _ _ (alike-issued ag _ same))))
-    (same-refused same _ _ (same-taken (alike-settled _ _ _ same))))
-    (same-either (eqb name up)
-    (same-either (leb value (length (p .noted)))
-    (same-refused same _ _ (same-taken (alike-recorded _ same)))
-    (same-refused same _ _ (same-taken (alike-recorded _ same))))
-    (same-refused same _ _ (rw (held-same r r₁ (w .histories) (p .held))
-    (same-taken (alike-pick (leb (kit .f) (switches kit (accept p sender sw value))) (alike-recorded _ same) (alike-recorded _ same)))))))))))))
+module _ (kit : Kit) (r r₁ : Room) (sender name value to : ℕ) (w : SeesSame sender name value to r r₁) where
+  -- it is decided in the same way
+  decide-sees : decide kit r₁ (Deliver sender name value to) ≡ decide kit r (Deliver sender name value to)
+  unfolding decide
+  decide-sees = rw (w .content, w .own-record, w .submitted)
+
+  -- and the same is done
+  acted-sees : (act : Act) → Alike to r r₁ (acted kit r to act) (acted kit r₁ to act)
+  unfolding acted afterPrepare afterCommit afterUpdate afterSwitch afterHand afterPanic
+  acted-sees (Act.Prepare sender value request) = rw (w .own-record, w .own-counter) (alike-settled _ _ _ (alike-issued ag _ (alike-none (w .own-record) (w .own-counter))))
+  acted-sees (Act.Commit sender value) = rw (w .own-record, w .own-counter) (alike-settled _ _ _ (alike-none (w .own-record) (w .own-counter)))
+  acted-sees (Act.KnownPair sender value) = rw (w .own-record) (alike-recorded _ (alike-none (w .own-record) (w .own-counter)))
+  acted-sees (Act.NewPair sender value request mark) = rw (w .own-record) (alike-recorded _ (alike-none (w .own-record) (w .own-counter)))
+  acted-sees (Act.Switch sender value) =
+      let same = alike-none (w .own-record) (w .own-counter) in
+      let p = accept (r .replica to) sender sw value in
+      rw (w .own-record, held-same r r₁ (w .histories) (p .held)) (alike-pick (leb (kit .f) (switches kit p)) (alike-recorded _ same) (alike-recorded _ same))
+  acted-sees (Act.Hand history) = rw (w .own-record) (alike-issued sw _ (alike-recorded _ (alike-none (w .own-record) (w .own-counter))))
+  acted-sees Act.Panic = rw (w .own-record) (alike-recorded _ (alike-none (w .own-record) (w .own-counter)))
+
+  done-sees : (list : List ℕ) (d : Decision) → Tested kit r (Deliver sender name value to) to d → SameOutcome to r r₁ (done kit r to list d) (done kit r₁ to list d)
+  unfolding carryOut
+  done-sees list (Decision.Refuse answer) t =
+      let same = alike-none (w .own-record) (w .own-counter) in
+      record { answer = refl; becomes = same .becomes; room = same .room; room₁ = same .room₁ }
+  done-sees list (Decision.Submit request) t = no-way (cc (t .event))
+  done-sees list (Decision.Issue x name content) t = no-way (cc (t .event))
+  done-sees list (Decision.Act act) t = same-taken (acted-sees act)
+  done-sees list Decision.Idle t = no-way (cc (t))
+  done-sees list (Decision.Build j k) t = no-way (cc (t .event))
+  done-sees list (Decision.File j k) t = no-way (cc (t .event))
+
+  pub same-delivery : (list : List ℕ) → SameOutcome to r r₁ (onEvent kit r (Deliver sender name value to) list) (onEvent kit r₁ (Deliver sender name value to) list)
+  unfolding onEvent concerned
+  same-delivery list = rw decide-sees (done-sees list (decide kit r (Deliver sender name value to)) (tested kit r (Deliver sender name value to)))

@@ -1,34 +1,34 @@
 -- One event adds at most 1 to each accepted value and to each ag total; so the settled count of a replica rises by at most one an event. In every
 -- room, for every event that a kit may have. Assumes nothing.
 use mathlib.Core.Path.{_≡_, refl}
-use mathlib.Core.Bool.{Bool, true, false, _&&_}
-use mathlib.Core.Logic.{_≢_}
+use mathlib.Core.Bool.{false, _&&_}
 use mathlib.Core.List.{List, [], _∷_}
 use Prim.Native.Nat.{ℕ, suc, _+_, _≤_}
 use native.Mathlib.Omega.{arith}
 use lib.ListN.{length}
 use lib.Dec.{eqb, ltb, leb}
-use borrow.Author.Tests.{eqb-true, eqb-false}
-use Rattle.terms.specs.Lists.{pick}
-use Rattle.terms.specs.ListLaws.{split, pick-elim, and-l, and-r, length-snoc, not-was-false}
-use Rattle.terms.specs.Limits.{nameMax}
+use borrow.Author.Tests.{eqb-true}
+use Rattle.terms.specs.ListLaws.{split, pick-elim, and-l, and-r, length-snoc}
 use Rattle.terms.specs.Kit.{Kit, Entry, GoodEvent, GoodEntry, GoodEntries}
 use Rattle.terms.specs.declared.Content.{Content}
-use Rattle.terms.specs.declared.Answer.{Answer}
 use Rattle.terms.specs.declared.Event.{Event}
-use Rattle.terms.specs.declared.Event.the-variants.{Submit, Issue, Deliver, Hand, Panic, Idle, Build, File}
-use Rattle.rules.specs.Table.{ag, up, sw, switchLeader}
+use Rattle.terms.specs.declared.Act.{Act}
+use Rattle.terms.specs.declared.Act.the-variants as Act
+use Rattle.terms.specs.declared.Decision.{Decision}
+use Rattle.terms.specs.declared.Decision.the-variants as Decision
+use Rattle.rules.specs.Table.{ag, up, sw}
 use Rattle.rules.specs.Room.{Room, Replica, put2, withClock, withLate, withReplica, issue, withHistory, remember, withCondition, withMark, note}
 use Rattle.rules.specs.Room.{notePair, accept, hold}
 use Rattle.rules.specs.laws.RoomLaws.{accepted-by-one}
 use Rattle.rules.specs.Reading.{isRunning, settledCount, agTotal}
 use Rattle.rules.specs.laws.ReadingLaws.{settledCount-by-one}
 use Rattle.rules.specs.Clock.{tick}
-use Rattle.rules.specs.Outcome.{Outcome, refuse}
-use Rattle.rules.specs.Submit.{afterSubmit, onSubmit, onIssue, onFile}
-use Rattle.rules.specs.Deliver.{settle, afterPrepare, afterCommit, onAg, afterUpdate, onUp, switches, afterSwitch, onSw, onDeliver}
-use Rattle.rules.specs.Switching.{onPanic, afterBuild, onBuild, afterHand, onHand}
+use Rattle.rules.specs.Submit.{afterSubmit, afterFile}
+use Rattle.rules.specs.Deliver.{settle, afterPrepare, afterCommit, afterUpdate, switches, afterSwitch}
+use Rattle.rules.specs.Switching.{afterPanic, afterBuild, afterHand}
+use Rattle.rules.specs.Decide.{concerned, decide, acted, carryOut}
 use Rattle.rules.specs.Play.{onEvent, step, play}
+use Rattle.rules.specs.laws.Tested.{Delivered, on-sw, ToAct, Tested, tested}
 
 -- accepted values rise by at most d and ag totals by at most t
 pub record Rises (d t : ℕ) (r r₁ : Room) : Type 0 where
@@ -81,16 +81,6 @@ rises-aside r x name c e = record { accepted = λ y z n. omega arith; total = λ
 one : {d t : ℕ} {r r₁ : Room} → d ≤ 1 → t ≤ 1 → Rises d t r r₁ → Rises 1 1 r r₁
 one l m h = rises-more 1 1 l m h
 
-module _ (r : Room) where
-  rises-refuse : (t : Bool) (a : Answer) (o : Outcome) → (t ≡ false → Rises 1 1 r (o .room)) → Rises 1 1 r (refuse t a r o .room)
-  unfolding refuse
-  rises-refuse true a o h = one (omega arith) (omega arith) (rises-none r)
-  rises-refuse false a o h = h refl
-
-  rises-either : (t : Bool) (o o₁ : Outcome) → Rises 1 1 r (o .room) → Rises 1 1 r (o₁ .room) → Rises 1 1 r (pick t o o₁ .room)
-  rises-either true o o₁ f g = f
-  rises-either false o o₁ f g = g
-
 rises-settle : (d : ℕ) (r : Room) (x : ℕ) (p : Replica) (a b : ℕ) → ((y n : ℕ) → p .accepted y n ≤ d + r .replica x .accepted y n)
     → Rises d 0 r (settle r x p a b)
 unfolding settle withMark
@@ -99,72 +89,53 @@ rises-settle d r x p a b f =
     (λ t. rises-more d 0 (omega arith) (omega arith) (rises-trans (rises-record d r x _ f) (rises-aside _ x up _ refl)))
     (λ t. rises-record d r x p f)
 
-rises-submit : (kit : Kit) (r : Room) (request : ℕ) → Rises 1 1 r (onSubmit kit r request .room)
-unfolding onSubmit afterSubmit note remember
+rises-submit : (kit : Kit) (r : Room) (request : ℕ) → Rises 1 1 r (afterSubmit kit r request)
+unfolding afterSubmit note remember
 rises-submit kit r request =
-    rises-refuse r _ _ _ λ e₁. rises-refuse r _ _ _ λ e₂.
     let asked : Rises 0 0 r (remember r request) = rises-same refl refl in
     pick-elim (λ z. Rises 1 1 r z) (isRunning (r .replica (kit .leader) .condition))
     (λ t. one (omega arith) (omega arith)
     (rises-trans asked (rises-trans (rises-record 0 (remember r request) (kit .leader) _ (λ y n. omega arith)) (rises-issue _ (kit .leader) ag _))))
     (λ t. one (omega arith) (omega arith) asked)
 
-rises-deliver : (kit : Kit) (r : Room) (sender name value to : ℕ) → name ≤ nameMax → Rises 1 1 r (onDeliver kit r sender name value to .room)
-unfolding onDeliver onAg afterPrepare afterCommit onUp afterUpdate onSw afterSwitch accept note notePair withMark withCondition issue
-rises-deliver kit r sender name value to small =
-    rises-refuse r _ _ _ λ e₁. rises-refuse r _ _ _ λ e₂. rises-refuse r _ _ _ λ e₃. rises-refuse r _ _ _ λ e₄. rises-refuse r _ _ _ λ e₅.
-    rises-refuse r _ _ _ λ e₆.
-    let a = r .replica to .accepted in
-    let ev = eqb-true value (suc (a sender name)) (not-was-false (eqb value (suc (a sender name))) e₆) in
-    pick-elim (λ (z : Outcome). Rises 1 1 r (z .room)) (eqb name ag)
-    (λ t. let z = eqb-true name ag t in
-    let next : (y n : ℕ) → put2 a sender ag value y n ≤ 1 + a y n = λ y n. omega (arith, accepted-by-one a sender ag value y n (rw z at ev)) in
-    rises-either r (eqb sender (kit .leader)) _ _
-    (rises-refuse r _ _ _ λ e. one (omega arith) (omega arith) (rises-trans (rises-issue r to ag _) (rises-settle 1 _ to _ _ _ next)))
-    (rises-refuse r _ _ _ λ e. one (omega arith) (omega arith) (rises-settle 1 r to _ _ _ next)))
-    (λ t. pick-elim (λ (z : Outcome). Rises 1 1 r (z .room)) (eqb name up)
-    (λ t₁. let z = eqb-true name up t₁ in
-    let next : (y n : ℕ) → put2 a sender up value y n ≤ 1 + a y n = λ y n. omega (arith, accepted-by-one a sender up value y n (rw z at ev)) in
-    rises-either r (leb value (length (r .replica to .noted))) _ _
-    (rises-refuse r _ _ _ λ e. one (omega arith) (omega arith) (rises-record 1 r to _ next))
-    (rises-refuse r _ _ _ λ e. one (omega arith) (omega arith) (rises-record 1 r to _ next)))
-    (λ t₁. let n0 : name ≢ ag = eqb-false name ag t in
-    let n1 : name ≢ up = eqb-false name up t₁ in
-    let z : name ≡ sw = omega arith in
-    let next : (y n : ℕ) → put2 a sender sw value y n ≤ 1 + a y n = λ y n. omega (arith, accepted-by-one a sender sw value y n (rw z at ev)) in
-    rises-refuse r _ _ _ λ e.
-    pick-elim (λ z. Rises 1 1 r z) (leb (kit .f) (switches kit (accept (r .replica to) sender sw value)))
-    (λ t. one (omega arith) (omega arith) (rises-record 1 r to _ next)) (λ t. one (omega arith) (omega arith) (rises-record 1 r to _ next))))
+module _ (kit : Kit) (r : Room) (e : Event) (x : ℕ) (size : ℕ) (list : List ℕ) (good : GoodEvent size e list) where
+  -- the value that is accepted is the next
+  by-next : (sender name value : ℕ) → Delivered kit r e x sender name value
+      → (y n : ℕ) → put2 (r .replica x .accepted) sender name value y n ≤ 1 + r .replica x .accepted y n
+  by-next sender name value t y n = omega (arith, accepted-by-one (r .replica x .accepted) sender name value y n (t .next))
 
-rises-build : (kit : Kit) (r : Room) → Rises 1 1 r (onBuild kit r .room)
-unfolding onBuild afterBuild withHistory hold
-rises-build kit r =
-    let s = switchLeader kit in
-    rises-refuse r _ _ _ λ e.
-    one (omega arith) (omega arith)
-    (rises-trans (rises-same {r₁ = withHistory r _ (r .filed)} refl refl)
-    (rises-trans (rises-record 0 _ s _ (λ y n. omega arith))
-    (rises-trans (rises-issue _ s ag _) (rises-trans (rises-aside _ s up _ refl) (rises-aside _ s sw _ refl)))))
+  rises-acted : (act : Act) → ToAct kit r e x act → Rises 1 1 r (acted kit r x act)
+  unfolding acted afterPrepare afterCommit afterUpdate afterSwitch afterHand afterPanic accept note notePair withMark withCondition issue hold
+  rises-acted (Act.Prepare sender value request) t =
+      one (omega arith) (omega arith) (rises-trans (rises-issue r x ag _) (rises-settle 1 _ x _ _ _ (by-next sender ag value (t .delivered))))
+  rises-acted (Act.Commit sender value) t = one (omega arith) (omega arith) (rises-settle 1 r x _ _ _ (by-next sender ag value (t .delivered)))
+  rises-acted (Act.KnownPair sender value) t = one (omega arith) (omega arith) (rises-record 1 r x _ (by-next sender up value (t .delivered)))
+  rises-acted (Act.NewPair sender value request mark) t = one (omega arith) (omega arith) (rises-record 1 r x _ (by-next sender up value (t .delivered)))
+  rises-acted (Act.Switch sender value) t =
+      let next = by-next sender sw value (on-sw kit r e x size list good t) in
+      pick-elim (λ z. Rises 1 1 r z) (leb (kit .f) (switches kit (accept (r .replica x) sender sw value)))
+      (λ closes. one (omega arith) (omega arith) (rises-record 1 r x _ next)) (λ waits. one (omega arith) (omega arith) (rises-record 1 r x _ next))
+  rises-acted (Act.Hand history) t =
+      one (omega arith) (omega arith) (rises-trans (rises-record 0 r x _ (λ y n. omega arith)) (rises-aside _ x sw _ refl))
+  rises-acted Act.Panic t = one (omega arith) (omega arith) (rises-record 0 r x _ (λ y n. omega arith))
 
-rises-hand : (kit : Kit) (r : Room) (p q to : ℕ) → Rises 1 1 r (onHand kit r p q to .room)
-unfolding onHand afterHand hold
-rises-hand kit r p q to =
-    rises-refuse r _ _ _ λ e₁. rises-refuse r _ _ _ λ e₂. rises-refuse r _ _ _ λ e₃. rises-refuse r _ _ _ λ e₄. rises-refuse r _ _ _ λ e₅.
-    rises-refuse r _ _ _ λ e₆.
-    one (omega arith) (omega arith) (rises-trans (rises-record 0 r to _ (λ y n. omega arith)) (rises-aside _ to sw _ refl))
+  rises-carried : (d : Decision) → Tested kit r e x d → Rises 1 1 r (carryOut kit r x d list)
+  unfolding carryOut afterBuild afterFile withHistory hold
+  rises-carried (Decision.Refuse answer) t = one (omega arith) (omega arith) (rises-none r)
+  rises-carried (Decision.Submit request) t = rises-submit kit r request
+  rises-carried (Decision.Issue y name content) t = one (omega arith) (omega arith) (rises-issue r y name content)
+  rises-carried (Decision.Act act) t = rises-acted act t
+  rises-carried Decision.Idle t = one (omega arith) (omega arith) (rises-none r)
+  rises-carried (Decision.Build j k) t =
+      one (omega arith) (omega arith)
+      (rises-trans (rises-same {r₁ = withHistory r _ (r .filed)} refl refl)
+      (rises-trans (rises-record 0 _ x _ (λ y n. omega arith))
+      (rises-trans (rises-issue _ x ag _) (rises-trans (rises-aside _ x up _ refl) (rises-aside _ x sw _ refl)))))
+  rises-carried (Decision.File j k) t = one (omega arith) (omega arith) (rises-same refl refl)
 
 rises-event : (kit : Kit) (r : Room) (size : ℕ) (e : Event) (list : List ℕ) → GoodEvent size e list → Rises 1 1 r (onEvent kit r e list .room)
-unfolding onEvent onIssue onPanic onFile withCondition withHistory
-rises-event kit r size (Submit request) list g = rises-submit kit r request
-rises-event kit r size (Issue x name content) list g =
-    rises-refuse r _ _ _ λ e₁. rises-refuse r _ _ _ λ e₂. rises-refuse r _ _ _ λ e₃. one (omega arith) (omega arith) (rises-issue r x name content)
-rises-event kit r size (Deliver sender name value to) list g = rises-deliver kit r sender name value to (g .1)
-rises-event kit r size (Hand p q to) list g = rises-hand kit r p q to
-rises-event kit r size (Panic to) list g =
-    rises-refuse r _ _ _ λ e₁. rises-refuse r _ _ _ λ e₂. one (omega arith) (omega arith) (rises-record 0 r to _ (λ y n. omega arith))
-rises-event kit r size Idle list g = one (omega arith) (omega arith) (rises-none r)
-rises-event kit r size Build list g = rises-build kit r
-rises-event kit r size (File j k) list g = rises-refuse r _ _ _ λ e. one (omega arith) (omega arith) (rises-same refl refl)
+unfolding onEvent
+rises-event kit r size e list good = rises-carried kit r e (concerned kit e) size list good (decide kit r e) (tested kit r e)
 
 pub rises-tick : (kit : Kit) (r : Room) (gap : ℕ) → Rises 0 0 r (tick kit r gap)
 unfolding tick withClock withLate
