@@ -14,7 +14,7 @@ use Rattle.terms.specs.declared.Condition.{Condition}
 use Rattle.terms.specs.declared.Event.{Event}
 use Rattle.terms.specs.declared.Event.the-variants as Event
 use Rattle.terms.specs.declared.Answer.the-variants.{AlreadySubmitted, SubmissionsFull, NotFaulty, CounterFull, NotIssued, ReceiverFaulty, TooLate, TooEarly, NotNext, WrongRoles, Unexpected, NotValid, FilesFull, CannotBuild}
-use Rattle.rules.specs.Table.{ag, up, sw, activesFrom, firstBut}
+use Rattle.rules.specs.Table.{ag, up, sw}
 use Rattle.rules.specs.Reading.{isRunning, isClosed, isFaulty, isContent, firstOf, secondOf}
 use Rattle.rules.specs.Deliver.{expectsSwitch}
 use Rattle.ledger.specs.Ledger.{Places, totalOf}
@@ -29,10 +29,6 @@ use Rattle.ledger.specs.Ledger.{contentOn}
 use Rattle.validity.specs.Validity.{isValidOn}
 
 -- ---- who is concerned
-
--- the active replica of lowest number apart from the leader
-unfoldable pub switchLeaderOf : List ℕ → ℕ → ℕ
-switchLeaderOf table leader = firstBut leader (activesFrom table 0)
 
 -- one of the seven records; 0 where there is none of that number
 unfoldable pub belowSeven : ℕ → ℕ

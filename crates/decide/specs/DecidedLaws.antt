@@ -15,7 +15,7 @@ use Rattle.terms.specs.declared.Content.{Content}
 use Rattle.terms.specs.declared.Content.the-variants as Content
 use Rattle.terms.specs.declared.Event.{Event}
 use Rattle.terms.specs.declared.Event.the-variants as Event
-use Rattle.rules.specs.Table.{ag, up, actives, switchLeader}
+use Rattle.rules.specs.Table.{ag, up, switchLeader}
 use Rattle.rules.specs.Room.{Room}
 use Rattle.rules.specs.Reading.{contentAt}
 use Rattle.rules.specs.Submit.{namesUnfiled}
@@ -23,7 +23,7 @@ use Rattle.rules.specs.Deliver.{expectsPrepare, expectsCommit, expectsPair, exp
 use Rattle.ledger.specs.LedgerLaws.{total-laid}
 use Rattle.replica.specs.declared.Replica.{Replica}
 use Rattle.replica.specs.RecordLayout.{numberOr0, layReplica}
-use Rattle.replica.specs.RecordLaws.{accepted-laid, active-laid, actives-laid, settled-laid}
+use Rattle.replica.specs.RecordLaws.{accepted-laid, active-laid, settled-laid}
 use Rattle.room.specs.declared.Roles.{Roles}
 use Rattle.room.specs.declared.Standing.{Standing}
 use Rattle.room.specs.declared.Decision.{Decision}
@@ -32,7 +32,7 @@ use Rattle.room.specs.Decide.{decideSubmit, decideIssue, decideAg, decideUp, de
 use Rattle.room.specs.Layout.{Parts, layRoles, layTable, layDesk, layRoom}
 use Rattle.room.specs.Bounds.{Bounds}
 use Rattle.room.specs.GoodLaws.{concerned-below}
-use Rattle.decide.specs.Decided.{switchLeaderOf, belowSeven, concernedIn, namesUnfiledIn, heldIn, isNewIn, isTooLateIn, hasWrongRolesIn, decideSubmitOn, decideIssueOn, decidePrepareOn, decideCommitOn, decidePairOn, decideUpdateOn, decideSwitchOn, decideContentOn, decideReceiveOn, decideDeliverOn, decideHoldOn, decideHandOn, decidePanicOn, decideBuildOn, decideFileOn, decideOn}
+use Rattle.decide.specs.Decided.{belowSeven, concernedIn, namesUnfiledIn, heldIn, isNewIn, isTooLateIn, hasWrongRolesIn, decideSubmitOn, decideIssueOn, decidePrepareOn, decideCommitOn, decidePairOn, decideUpdateOn, decideSwitchOn, decideContentOn, decideReceiveOn, decideDeliverOn, decideHoldOn, decideHandOn, decidePanicOn, decideBuildOn, decideFileOn, decideOn}
 use Rattle.decide.specs.ValidLaws.{content-laid, leader-seven, switcher-seven, table-seven, valid-laid}
 
 -- ---- an event decided on the player's parts
@@ -47,10 +47,6 @@ decidedOn roles table parts p event =
     decideOn event (standingOf p) (parts .desk) roles (p .noted) (p .marks) (p .accepted) table (parts .requests) (parts .heads) (parts .lists) (parts .ledger) (parts .issued)
 
 -- ---- who is concerned
-
-pub switch-leader-laid : (kit : Kit) → switchLeaderOf (layTable kit) (kit .leader) ≡ switchLeader kit
-unfolding switchLeaderOf layTable switchLeader actives
-switch-leader-laid kit = rw (actives-laid (kit .table))
 
 below-is : (n : ℕ) → n < 7 → belowSeven n ≡ n
 unfolding belowSeven

@@ -9,7 +9,7 @@ ghost use lib.Dec.{leb, eqb};
 ghost use lib.ListN.{getD};
 ghost use Rattle.rules.specs.Table.{sw};
 ghost use Rattle.rules.specs.Reading.{isRunning, isClosed, isFaulty};
-ghost use Rattle.decide.specs.Decided.{switchLeaderOf, belowSeven, concernedIn, decideSubmitOn, namesUnfiledIn, decideIssueOn, isNewIn, decidePrepareOn, decideCommitOn, decidePairOn, decideUpdateOn, decideSwitchOn, decideContentOn, isTooLateIn, hasWrongRolesIn, decideReceiveOn, decideDeliverOn, decideHoldOn, decideHandOn, decidePanicOn, decideBuildOn, decideFileOn, decideOn};
+ghost use Rattle.decide.specs.Decided.{belowSeven, concernedIn, decideSubmitOn, namesUnfiledIn, decideIssueOn, isNewIn, decidePrepareOn, decideCommitOn, decidePairOn, decideUpdateOn, decideSwitchOn, decideContentOn, isTooLateIn, hasWrongRolesIn, decideReceiveOn, decideDeliverOn, decideHoldOn, decideHandOn, decidePanicOn, decideBuildOn, decideFileOn, decideOn};
 use ledger::Issued;
 use ledger::Ledger;
 use room::Decision;
@@ -87,25 +87,6 @@ fn is_faulty(condition: Condition) -> bool
         Condition::Closed => false,
         Condition::Faulty => true,
     }
-}
-
-// The active replica of lowest number apart from the leader.
-pub fn switch_leader(table: &Table, leader: usize) -> usize
-    ensures { λ r. ⌜ r ≡ switchLeaderOf (now (table .entry)) leader ⌝ }
-{
-    let entries: &[u32] = table;
-    let mut x: usize = 0;
-    while x < entries.len() {
-        if terms::marks_active(entries[x]) {
-            if x != leader {
-                return x;
-            }
-            x = x + 1;
-        } else {
-            x = x + 1;
-        }
-    }
-    0
 }
 
 // One of the seven records.

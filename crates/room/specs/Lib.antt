@@ -9,3 +9,4 @@ pub mod BoundsLaws
 pub mod GoodLaws
 pub mod SettledLaws
 pub mod Reached
+pub mod Said

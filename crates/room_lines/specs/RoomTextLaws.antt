@@ -28,7 +28,7 @@ use Rattle.room.specs.Settled.{shownRecord}
 use Rattle.room.specs.SettledLaws.{settled-shown, shown-laid}
 use Rattle.play_lines.specs.Lines.{linesFrom}
 use Rattle.play_lines.specs.LinesLaws.{lines-ext}
-use Rattle.play_lines.specs.PlayTextLaws.{Says}
+use Rattle.room.specs.Said.{Says}
 use Rattle.room_lines.specs.Pieces.{submittedText, historyText, counterText, acceptedText, keptText, recordText}
 use Rattle.room_lines.specs.PieceLaws.{entries-ext, lines-each}
 use Rattle.room_lines.specs.RoomLines.{answerIn, submissionsIn, submittedLine, historyLines, contentsIn, counterLine, countersAt, counterLines, recordLine, replicaLine, replicaLines, roomLines}

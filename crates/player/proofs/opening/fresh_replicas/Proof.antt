@@ -1,9 +1,9 @@
 -- `fresh_replicas`: one for each of the seven places. Assumes nothing.
 use borrow.Author.Needs.{needs}
 use Rattle.terms.specs.Tabulate.{tab}
-use Rattle.played.specs.Fresh.{freshReplicas}
-use Rattle.played.proofs.fresh_replicas.Statement.{statement}
-use Rattle.played.proofs.fresh_replicas.Tie as tie
+use Rattle.player.specs.Opening.{freshReplicas}
+use Rattle.player.proofs.opening.fresh_replicas.Statement.{statement}
+use Rattle.player.proofs.opening.fresh_replicas.Tie as tie
 
 pub fresh-replicas-spec : {M : Type 1} → statement M
 unfolding freshReplicas tab

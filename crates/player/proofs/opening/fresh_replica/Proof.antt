@@ -1,8 +1,8 @@
 -- `fresh_replica`: faulty where the table marks it so. Assumes nothing.
 use borrow.Author.Needs.{needs}
 use mathlib.Core.Path.{_∙_}
-use Rattle.played.proofs.fresh_replica.Statement.{statement}
-use Rattle.played.proofs.fresh_replica.Tie as tie
+use Rattle.player.proofs.opening.fresh_replica.Statement.{statement}
+use Rattle.player.proofs.opening.fresh_replica.Tie as tie
 
 pub fresh-replica-spec : {M : Type 1} → statement M
 fresh-replica-spec =
