@@ -12,24 +12,18 @@ use replica::Replica;
 use room::Decision;
 use room::Desk;
 use room::Roles;
+use terms::AG;
 use terms::Condition;
 use terms::Content;
-
-// The requests and the ticks of the submissions, in order.
-pub type Requests = [u32; 64];
-
-pub type Ticks = [u64; 64];
-// Of each history j, k and the length of its list; the lists.
-pub type Heads = [[usize; 3]; 8];
-
-pub type Lists = [[u32; 64]; 8];
-
-// A number as an index.
-fn wide(x: u32) -> usize
-    ensures { λ r. ⌜ r ≡ x ⌝ }
-{
-    x as usize
-}
+use terms::HISTORIES;
+use terms::Heads;
+use terms::Lists;
+use terms::REQUESTS;
+use terms::Requests;
+use terms::SW;
+use terms::Table;
+use terms::Ticks;
+use terms::UP;
 
 // ---- what is entered
 
@@ -37,7 +31,7 @@ fn wide(x: u32) -> usize
 fn store_request(n: usize, request: u32, clock: u64, requests: &mut Requests, ticks: &mut Ticks)
     ensures { λ _. ⌜ submissions (now (requests .exit)) (now (ticks .exit)) ≡ storeRequest n request clock (now (requests .entry)) (now (ticks .entry)) ⌝ }
 {
-    if 64 <= n {
+    if REQUESTS <= n {
         return;
     }
     requests[n] = request;
@@ -50,13 +44,13 @@ fn file(
     j: usize,
     k: usize,
     n: usize,
-    list: &[u32; 64],
+    list: &Requests,
     heads: &mut Heads,
     lists: &mut Lists,
 )
     ensures { λ _. ⌜ filings (now (heads .exit)) (now (lists .exit)) ≡ fileOn h j k n (now (list .entry)) (now (heads .entry)) (now (lists .entry)) ⌝ }
 {
-    if 8 <= h {
+    if HISTORIES <= h {
         return;
     }
     heads[h] = [j, k, n];
@@ -64,19 +58,13 @@ fn file(
 }
 
 // A request goes to the end of a row of n requests, if it is not among the noted ones; says how many there are then.
-fn add_missing(
-    noted: &[u32; 64],
-    count: usize,
-    request: u32,
-    list: &mut [u32; 64],
-    n: usize,
-) -> usize
+fn add_missing(noted: &Requests, count: usize, request: u32, list: &mut Requests, n: usize) -> usize
     ensures { λ r. ⌜ row (now (list .exit)) r ≡ addMissing (take count (now (noted .entry))) request (row (now (list .entry)) n) ⌝ }
 {
-    if replica::holds(noted, count, request) {
+    if terms::holds(noted, count, request) {
         return n;
     }
-    if 64 <= n {
+    if REQUESTS <= n {
         return n;
     }
     list[n] = request;
@@ -85,11 +73,11 @@ fn add_missing(
 
 // The submitted requests that are not noted go to the end of a row of n requests, in order of submission; says how many there are then.
 fn add_all_missing(
-    noted: &[u32; 64],
+    noted: &Requests,
     count: usize,
     requests: &Requests,
     submitted: usize,
-    list: &mut [u32; 64],
+    list: &mut Requests,
 ) -> usize
     ensures { λ r. ⌜ row (now (list .exit)) r ≡ storeAll (row (now (list .entry)) count) (missing (take count (now (noted .entry))) (take submitted (now (requests .entry)))) ⌝ }
 {
@@ -111,9 +99,9 @@ fn add_all_missing(
 pub fn enter(
     decision: Decision,
     desk: Desk,
-    noted: &[u32; 64],
+    noted: &Requests,
     count: usize,
-    list: &[u32; 64],
+    list: &Requests,
     n: usize,
     requests: &mut Requests,
     ticks: &mut Ticks,
@@ -126,7 +114,7 @@ pub fn enter(
     let h = desk.histories;
     match decision {
         Decision::Submit(request) => store_request(submitted, request, desk.clock, requests, ticks),
-        Decision::File(j, k) => file(h, wide(j), wide(k), n, list, heads, lists),
+        Decision::File(j, k) => file(h, terms::index(j), terms::index(k), n, list, heads, lists),
         Decision::Build(j, k) => {
             let mut row = *noted;
             let length = add_all_missing(noted, count, requests, submitted, &mut row);
@@ -148,10 +136,10 @@ pub fn enter(
 // ---- settling
 
 // The request at a place of a list, 0 past its end.
-fn request_at(list: &[u32; 64], c: usize) -> u32
+fn request_at(list: &Requests, c: usize) -> u32
     ensures { λ r. ⌜ r ≡ requestAt (now (list .entry)) c ⌝ }
 {
-    if 64 <= c {
+    if REQUESTS <= c {
         return 0;
     }
     list[c]
@@ -172,7 +160,7 @@ fn settle(
         let noted = p.noted;
         let request = request_at(&noted, c);
         let mark = terms::next_mark(p.mark, request);
-        ledger::issue(ledger, issued, me, 1, Content::Update(request, mark));
+        ledger::issue(ledger, issued, me, UP, Content::Update(request, mark));
         return p.with_mark(mark);
     }
     p
@@ -187,7 +175,7 @@ fn lead(p: Replica, request: u32, me: usize, ledger: &mut Ledger, issued: &mut I
     let condition = p.condition;
     match condition {
         Condition::Running => {
-            ledger::issue(ledger, issued, me, 0, Content::Prepare(request));
+            ledger::issue(ledger, issued, me, AG, Content::Prepare(request));
             p.note(request)
         }
         Condition::Halted => p,
@@ -219,19 +207,19 @@ fn prepare(
     request: u32,
     me: usize,
     leader: usize,
-    table: &[u32; 7],
+    table: &Table,
     ledger: &mut Ledger,
     issued: &mut Issued,
 ) -> Replica
     ensures { λ r. ⌜ applied r (book (now (ledger .exit)) (now (issued .exit))) ≡ prepareOn p sender value request me leader (now (table .entry)) (book (now (ledger .entry)) (now (issued .entry))) ⌝ }
 {
     let before = p.accepted;
-    let c = replica::settled_count(&before, table, leader, me, ledger::total(issued, me, 0));
+    let c = replica::settled_count(&before, table, leader, me, ledger::total(issued, me, AG));
     let noting = p.note(request);
-    let accepting = noting.accept(sender, 0, value);
-    ledger::issue(ledger, issued, me, 0, Content::Commit(request, value));
+    let accepting = noting.accept(sender, AG, value);
+    ledger::issue(ledger, issued, me, AG, Content::Commit(request, value));
     let after = accepting.accepted;
-    let d = replica::settled_count(&after, table, leader, me, ledger::total(issued, me, 0));
+    let d = replica::settled_count(&after, table, leader, me, ledger::total(issued, me, AG));
     settle(accepting, c, d, me, ledger, issued)
 }
 
@@ -242,16 +230,16 @@ fn commit(
     value: u32,
     me: usize,
     leader: usize,
-    table: &[u32; 7],
+    table: &Table,
     ledger: &mut Ledger,
     issued: &mut Issued,
 ) -> Replica
     ensures { λ r. ⌜ applied r (book (now (ledger .exit)) (now (issued .exit))) ≡ commitOn p sender value me leader (now (table .entry)) (book (now (ledger .entry)) (now (issued .entry))) ⌝ }
 {
-    let own = ledger::total(issued, me, 0);
+    let own = ledger::total(issued, me, AG);
     let before = p.accepted;
     let c = replica::settled_count(&before, table, leader, me, own);
-    let accepting = p.accept(sender, 0, value);
+    let accepting = p.accept(sender, AG, value);
     let after = accepting.accepted;
     let d = replica::settled_count(&after, table, leader, me, own);
     settle(accepting, c, d, me, ledger, issued)
@@ -264,11 +252,11 @@ fn accept_pair(
     value: u32,
     me: usize,
     leader: usize,
-    table: &[u32; 7],
+    table: &Table,
 ) -> Replica
     ensures { λ r. ⌜ r ≡ pairOn p sender value me leader (now (table .entry)) ⌝ }
 {
-    let accepting = p.accept(sender, 1, value);
+    let accepting = p.accept(sender, UP, value);
     let accepted = accepting.accepted;
     let marks = accepting.marks;
     let c = replica::settled_count(&accepted, table, leader, me, 0);
@@ -277,7 +265,7 @@ fn accept_pair(
 }
 
 // The mark of the first n requests of a list.
-fn mark_of(list: &[u32; 64], n: usize) -> u32
+fn mark_of(list: &Requests, n: usize) -> u32
     ensures { λ r. ⌜ r ≡ markOf (take n (now (list .entry))) ⌝ }
 {
     let all: &[u32] = list;
@@ -297,9 +285,9 @@ fn mark_of(list: &[u32; 64], n: usize) -> u32
 fn held_mark(holding: bool, held: u32, heads: &Heads, lists: &Lists) -> u32
     ensures { λ r. ⌜ r ≡ heldMark holding held (now (heads .entry)) (now (lists .entry)) ⌝ }
 {
-    let h = wide(held);
+    let h = terms::index(held);
     if holding {
-        if 8 <= h {
+        if HISTORIES <= h {
             return 0;
         }
         return mark_of(&lists[h], heads[h][2]);
@@ -319,7 +307,7 @@ fn accept_switch(
 ) -> Replica
     ensures { λ r. ⌜ r ≡ switchOn p sender value f size (now (heads .entry)) (now (lists .entry)) ⌝ }
 {
-    let accepting = p.accept(sender, 2, value);
+    let accepting = p.accept(sender, SW, value);
     let accepted = accepting.accepted;
     if replica::switches(&accepted, size) < f {
         return accepting;
@@ -332,7 +320,7 @@ fn accept_switch(
 fn hand(p: Replica, history: u32, me: usize, ledger: &mut Ledger, issued: &mut Issued) -> Replica
     ensures { λ r. ⌜ applied r (book (now (ledger .exit)) (now (issued .exit))) ≡ handOn p history me (book (now (ledger .entry)) (now (issued .entry))) ⌝ }
 {
-    ledger::issue(ledger, issued, me, 2, Content::Switch(history));
+    ledger::issue(ledger, issued, me, SW, Content::Switch(history));
     p.hold(history)
 }
 
@@ -340,12 +328,12 @@ fn hand(p: Replica, history: u32, me: usize, ledger: &mut Ledger, issued: &mut I
 fn build(p: Replica, h: usize, me: usize, ledger: &mut Ledger, issued: &mut Issued) -> Replica
     ensures { λ r. ⌜ applied r (book (now (ledger .exit)) (now (issued .exit))) ≡ buildOn p h me (book (now (ledger .entry)) (now (issued .entry))) ⌝ }
 {
-    if 8 <= h {
+    if HISTORIES <= h {
         return p;
     }
     let history = h as u32;
-    ledger::issue(ledger, issued, me, 0, Content::History(history));
-    ledger::issue(ledger, issued, me, 1, Content::History(history));
+    ledger::issue(ledger, issued, me, AG, Content::History(history));
+    ledger::issue(ledger, issued, me, UP, Content::History(history));
     hand(p, history, me, ledger, issued)
 }
 
@@ -378,7 +366,7 @@ pub fn apply(
     desk: Desk,
     me: usize,
     roles: Roles,
-    table: &[u32; 7],
+    table: &Table,
     heads: &Heads,
     lists: &Lists,
     ledger: &mut Ledger,

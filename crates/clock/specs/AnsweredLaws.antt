@@ -1,7 +1,6 @@
 -- Laws of Answered: read off the laid-out counters of a room within bounds, it is the rules' answered. Assumes nothing.
 use mathlib.Core.Path.{_≡_, refl, ap, _∙_, fun-ext}
 use mathlib.Core.Bool.{Bool, false}
-use mathlib.Core.Option.{Option, none, some}
 use mathlib.Core.List.{List, [], _∷_}
 use Prim.Native.Nat.{ℕ, suc, _+_, _≤_, _<_}
 use native.Mathlib.Omega.{arith}
@@ -16,20 +15,16 @@ use Rattle.rules.specs.laws.TableLaws.{Roles, roles}
 use Rattle.rules.specs.Room.{Room}
 use Rattle.rules.specs.Reading.{answeredAt, answered}
 use Rattle.rules.specs.laws.ReadingLaws.{isContent-same}
-use Rattle.ledger.specs.LedgerLayout.{choiceOf, layLedger, layIssued}
-use Rattle.ledger.specs.LedgerLaws.{look-laid}
+use Rattle.ledger.specs.LedgerLayout.{layLedger, layIssued}
+use Rattle.ledger.specs.LedgerLaws.{content-laid}
 use Rattle.replica.specs.RecordLaws.{actives-laid}
 use Rattle.room.specs.Layout.{layTable}
 use Rattle.room.specs.Bounds.{Bounds}
-use Rattle.clock.specs.AnsweredOn.{chosen, upValue, hasUpdated, updatedBy, answeredAtOn, answeredOn}
-
-chosen-choice : (content : Option Content) → chosen (choiceOf content) ≡ content
-chosen-choice none = refl
-chosen-choice (some content) = refl
+use Rattle.clock.specs.AnsweredOn.{upValue, hasUpdated, updatedBy, answeredAtOn, answeredOn}
 
 -- an up value is what the room has there
 up-laid : (counter : ℕ → ℕ → List Content) (y i : ℕ) → y < 7 → length (counter y up) ≤ placesMax → upValue (layLedger counter) (layIssued counter) (suc i) y ≡ nth (counter y up) i
-up-laid counter y i small few = rw (look-laid counter y up small (omega arith) (suc i) few) (chosen-choice (nth (counter y up) i))
+up-laid counter y i small few = content-laid counter y up small (omega arith) (suc i) few
 
 -- only what is said of the table's replicas counts
 all-ext : (l : List ℕ) (x : ℕ) (s t : ℕ → Bool) → ((y : ℕ) → y < x + length l → s y ≡ t y) → allOf (activesFrom l x) s ≡ allOf (activesFrom l x) t

@@ -25,7 +25,8 @@ use Rattle.room.specs.declared.Standing.{Standing}
 use Rattle.room.specs.declared.Decision.{Decision}
 use Rattle.room.specs.declared.Decision.the-variants.{Submit, Issue, Prepare, Commit, KnownPair, NewPair, Switch, Hand, Panic, Idle, Build, File}
 use Rattle.room.specs.Decide.{refuseIf}
-use Rattle.validity.specs.Validity.{contentOn, isValidOn}
+use Rattle.ledger.specs.Ledger.{contentOn}
+use Rattle.validity.specs.Validity.{isValidOn}
 
 -- ---- who is concerned
 

@@ -20,8 +20,9 @@ use Rattle.rules.specs.Table.{ag, up, activesFrom, actives, switchLeader}
 use Rattle.rules.specs.Room.{Room, Filing}
 use Rattle.rules.specs.Reading.{contentAt, isContent}
 use Rattle.rules.specs.Switching.{isCommitted, isSettledBy, isValid, isValidFiling}
-use Rattle.ledger.specs.LedgerLayout.{choiceOf, layLedger, layIssued}
-use Rattle.ledger.specs.LedgerLaws.{look-laid}
+use Rattle.ledger.specs.LedgerLayout.{layLedger, layIssued}
+use Rattle.ledger.specs.Ledger.{contentOn}
+use Rattle.ledger.specs.LedgerLaws as Ledger
 use Rattle.replica.specs.RecordLaws.{actives-laid}
 use Rattle.room.specs.Decide.{concerned}
 use Rattle.room.specs.Layout.{layTable, layHeads, layLists}
@@ -29,7 +30,7 @@ use Rattle.room.specs.LayoutLaws.{head-laid, list-laid}
 use Rattle.rules.specs.agreement.Invariant.{FilingBounds}
 use Rattle.room.specs.Bounds.{Bounds}
 use Rattle.room.specs.GoodLaws.{concerned-below}
-use Rattle.validity.specs.Validity.{found, contentOn, isCommittedAt, isCommittedOn, isCommonTo, isSettledAt, isSettledOn, isListed, isBorneOut, isFiledAt, isValidOn}
+use Rattle.validity.specs.Validity.{isCommittedAt, isCommittedOn, isCommonTo, isSettledAt, isSettledOn, isListed, isBorneOut, isFiledAt, isValidOn}
 
 -- ---- tests that agree where they are asked
 
@@ -49,10 +50,6 @@ and-none false = refl
 
 -- ---- looking up
 
-found-choice : (o : Option Content) → found (choiceOf o) ≡ o
-found-choice none = refl
-found-choice (some c) = refl
-
 past-end : {A : Type 0} (l : List A) (i : ℕ) → nth l i ≡ none → length l ≤ i
 past-end [] i e = omega arith
 past-end (x ∷ l) zero e = no-way (cc)
@@ -60,7 +57,7 @@ past-end (x ∷ l) (suc i) e = omega (arith, past-end l i e)
 
 module _ (kit : Kit) (r : Room) (b : Bounds kit r) where
   pub content-laid : (x name value : ℕ) → x < 7 → name < 3 → contentOn (layLedger (r .counter)) (layIssued (r .counter)) x name value ≡ contentAt (r .counter x name) value
-  content-laid x name value hx hn = rw (look-laid (r .counter) x name hx hn value (b .counter-max x name)) (found-choice (contentAt (r .counter x name) value))
+  content-laid x name value hx hn = Ledger.content-laid (r .counter) x name hx hn value (b .counter-max x name)
 
   pub leader-seven : kit .leader < 7
   leader-seven = omega (arith, b .good .leader-below, b .good .f-high)

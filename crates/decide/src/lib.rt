@@ -16,18 +16,24 @@ use room::Decision;
 use room::Desk;
 use room::Roles;
 use room::Standing;
+use terms::AG;
+use terms::Accepted;
 use terms::Answer;
 use terms::Condition;
 use terms::Content;
 use terms::ContentChoice;
 use terms::Event;
-
-// A number as an index.
-fn wide(x: u32) -> usize
-    ensures { λ r. ⌜ r ≡ x ⌝ }
-{
-    x as usize
-}
+use terms::FILED;
+use terms::Heads;
+use terms::Lists;
+use terms::Marks;
+use terms::PLACES;
+use terms::REPLICAS;
+use terms::REQUESTS;
+use terms::Requests;
+use terms::SW;
+use terms::Table;
+use terms::UP;
 
 // The place of a value in a list: values count from 1.
 fn place_of(value: u32) -> usize
@@ -36,11 +42,11 @@ fn place_of(value: u32) -> usize
     if value == 0 {
         return 0;
     }
-    wide(value - 1)
+    terms::index(value - 1)
 }
 
 // An entry of a list, 0 where it has none.
-fn entry(list: &[u32; 64], i: usize) -> u32
+fn entry(list: &Requests, i: usize) -> u32
     ensures { λ r. ⌜ r ≡ getD (now (list .entry)) i 0 ⌝ }
 {
     let entries: &[u32] = list;
@@ -84,13 +90,13 @@ fn is_faulty(condition: Condition) -> bool
 }
 
 // The active replica of lowest number apart from the leader.
-pub fn switch_leader(table: &[u32; 7], leader: usize) -> usize
+pub fn switch_leader(table: &Table, leader: usize) -> usize
     ensures { λ r. ⌜ r ≡ switchLeaderOf (now (table .entry)) leader ⌝ }
 {
     let entries: &[u32] = table;
     let mut x: usize = 0;
     while x < entries.len() {
-        if replica::is_active(entries[x]) {
+        if terms::marks_active(entries[x]) {
             if x != leader {
                 return x;
             }
@@ -106,7 +112,7 @@ pub fn switch_leader(table: &[u32; 7], leader: usize) -> usize
 fn below_seven(n: usize) -> usize
     ensures { λ r. ⌜ r ≡ belowSeven n ⌝ }
 {
-    if 7 <= n {
+    if REPLICAS <= n {
         return 0;
     }
     n
@@ -129,13 +135,13 @@ pub fn concerned(event: Event, roles: Roles) -> usize
 }
 
 // Kind 1: already submitted; 64 submitted.
-fn submit(requests: &[u32; 64], submitted: usize, request: u32) -> Decision
+fn submit(requests: &Requests, submitted: usize, request: u32) -> Decision
     ensures { λ r. ⌜ r ≡ decideSubmitOn (now (requests .entry)) submitted request ⌝ }
 {
-    if replica::holds(requests, submitted, request) {
+    if terms::holds(requests, submitted, request) {
         return Decision::Refuse(Answer::AlreadySubmitted);
     }
-    if 64 <= submitted {
+    if REQUESTS <= submitted {
         return Decision::Refuse(Answer::SubmissionsFull);
     }
     Decision::Submit(request)
@@ -149,8 +155,8 @@ fn names_unfiled(histories: usize, content: Content) -> bool
         Content::Prepare(_) => false,
         Content::Commit(_, _) => false,
         Content::Update(_, _) => false,
-        Content::History(number) => histories <= wide(number),
-        Content::Switch(number) => histories <= wide(number),
+        Content::History(number) => histories <= terms::index(number),
+        Content::Switch(number) => histories <= terms::index(number),
     }
 }
 
@@ -169,7 +175,7 @@ fn issue(
         if names_unfiled(histories, content) {
             return Decision::Refuse(Answer::Unexpected);
         }
-        if 96 <= ledger::total(issued, x, name) {
+        if PLACES <= ledger::total(issued, x, name) {
             return Decision::Refuse(Answer::CounterFull);
         }
         return Decision::Issue(x, name, content);
@@ -179,16 +185,16 @@ fn issue(
 
 // A request that is submitted and that the receiver has not noted yet.
 fn is_new(
-    requests: &[u32; 64],
+    requests: &Requests,
     submitted: usize,
-    noted: &[u32; 64],
+    noted: &Requests,
     count: usize,
     request: u32,
 ) -> bool
     ensures { λ r. ⌜ r ≡ isNewIn (now (requests .entry)) submitted (now (noted .entry)) count request ⌝ }
 {
-    if replica::holds(requests, submitted, request) {
-        if replica::holds(noted, count, request) {
+    if terms::holds(requests, submitted, request) {
+        if terms::holds(noted, count, request) {
             return false;
         }
         return true;
@@ -198,9 +204,9 @@ fn is_new(
 
 // From the leader: PREPARE of a new request.
 fn prepare(
-    requests: &[u32; 64],
+    requests: &Requests,
     submitted: usize,
-    noted: &[u32; 64],
+    noted: &Requests,
     count: usize,
     sender: usize,
     value: u32,
@@ -208,8 +214,8 @@ fn prepare(
 ) -> Decision
     ensures { λ r. ⌜ r ≡ decidePrepareOn (now (requests .entry)) submitted (now (noted .entry)) count sender value (some content) ⌝ }
 {
-    let request = validity::first_of(content);
-    if validity::is_same(content, Content::Prepare(request)) {
+    let request = ledger::first_of(content);
+    if ledger::is_same(content, Content::Prepare(request)) {
         if is_new(requests, submitted, noted, count, request) {
             return Decision::Prepare(sender, value, request);
         }
@@ -222,16 +228,16 @@ fn prepare(
 fn is_noted(value: u32, count: usize) -> bool
     ensures { λ r. ⌜ r ≡ leb value count ⌝ }
 {
-    wide(value) <= count
+    terms::index(value) <= count
 }
 
 // From another active replica: COMMIT of the receiver's noted request of that value, which must exist.
-fn commit(noted: &[u32; 64], count: usize, sender: usize, value: u32, content: Content) -> Decision
+fn commit(noted: &Requests, count: usize, sender: usize, value: u32, content: Content) -> Decision
     ensures { λ r. ⌜ r ≡ decideCommitOn (now (noted .entry)) count sender value (some content) ⌝ }
 {
     if is_noted(value, count) {
         let request = entry(noted, place_of(value));
-        if validity::is_same(content, Content::Commit(request, value)) {
+        if ledger::is_same(content, Content::Commit(request, value)) {
             return Decision::Commit(sender, value);
         }
         return Decision::Refuse(Answer::Unexpected);
@@ -241,8 +247,8 @@ fn commit(noted: &[u32; 64], count: usize, sender: usize, value: u32, content: C
 
 // A pair that the receiver has noted: UPDATE equal to it.
 fn known_pair(
-    noted: &[u32; 64],
-    marks: &[u32; 64],
+    noted: &Requests,
+    marks: &Marks,
     sender: usize,
     value: u32,
     content: Content,
@@ -252,7 +258,7 @@ fn known_pair(
     let i = place_of(value);
     let request = entry(noted, i);
     let mark = entry(marks, i);
-    if validity::is_same(content, Content::Update(request, mark)) {
+    if ledger::is_same(content, Content::Update(request, mark)) {
         return Decision::KnownPair(sender, value);
     }
     Decision::Refuse(Answer::Unexpected)
@@ -260,9 +266,9 @@ fn known_pair(
 
 // A pair that the receiver has not noted: UPDATE of a new request.
 fn new_pair(
-    requests: &[u32; 64],
+    requests: &Requests,
     submitted: usize,
-    noted: &[u32; 64],
+    noted: &Requests,
     count: usize,
     sender: usize,
     value: u32,
@@ -270,9 +276,9 @@ fn new_pair(
 ) -> Decision
     ensures { λ r. ⌜ r ≡ decideUpdateOn (now (requests .entry)) submitted (now (noted .entry)) count sender value (some content) ⌝ }
 {
-    let request = validity::first_of(content);
-    let mark = validity::second_of(content);
-    if validity::is_same(content, Content::Update(request, mark)) {
+    let request = ledger::first_of(content);
+    let mark = ledger::second_of(content);
+    if ledger::is_same(content, Content::Update(request, mark)) {
         if is_new(requests, submitted, noted, count, request) {
             return Decision::NewPair(sender, value, request, mark);
         }
@@ -286,7 +292,7 @@ fn switch(holding: bool, held: u32, sender: usize, value: u32, content: Content)
     ensures { λ r. ⌜ r ≡ decideSwitchOn holding held sender value (some content) ⌝ }
 {
     if holding {
-        if validity::is_same(content, Content::Switch(held)) {
+        if ledger::is_same(content, Content::Switch(held)) {
             return Decision::Switch(sender, value);
         }
         return Decision::Refuse(Answer::Unexpected);
@@ -298,9 +304,9 @@ fn switch(holding: bool, held: u32, sender: usize, value: u32, content: Content)
 fn on_content(
     standing: Standing,
     leader: usize,
-    noted: &[u32; 64],
-    marks: &[u32; 64],
-    requests: &[u32; 64],
+    noted: &Requests,
+    marks: &Marks,
+    requests: &Requests,
     submitted: usize,
     sender: usize,
     name: usize,
@@ -310,13 +316,13 @@ fn on_content(
     ensures { λ r. ⌜ r ≡ decideContentOn standing leader (now (noted .entry)) (now (marks .entry)) (now (requests .entry)) submitted sender name value (some content) ⌝ }
 {
     let count = standing.count;
-    if name == 0 {
+    if name == AG {
         if sender == leader {
             return prepare(requests, submitted, noted, count, sender, value, content);
         }
         return commit(noted, count, sender, value, content);
     }
-    if name == 1 {
+    if name == UP {
         if is_noted(value, count) {
             return known_pair(noted, marks, sender, value, content);
         }
@@ -329,7 +335,7 @@ fn on_content(
 fn is_too_late(name: usize, condition: Condition) -> bool
     ensures { λ r. ⌜ r ≡ isTooLateIn name condition ⌝ }
 {
-    if name == 2 {
+    if name == SW {
         return is_closed(condition);
     }
     if is_running(condition) {
@@ -342,14 +348,14 @@ fn is_too_late(name: usize, condition: Condition) -> bool
 fn is_too_early(name: usize, holding: bool) -> bool
     ensures { λ r. ⌜ r ≡ eqb name sw && not holding ⌝ }
 {
-    if name == 2 {
+    if name == SW {
         return !holding;
     }
     false
 }
 
 // The sender is not the receiver; ag needs both active; up needs an active sender and a passive receiver.
-fn has_wrong_roles(table: &[u32; 7], sender: usize, name: usize, to: usize) -> bool
+fn has_wrong_roles(table: &Table, sender: usize, name: usize, to: usize) -> bool
     ensures { λ r. ⌜ r ≡ hasWrongRolesIn (now (table .entry)) sender name to ⌝ }
 {
     if sender == to {
@@ -357,13 +363,13 @@ fn has_wrong_roles(table: &[u32; 7], sender: usize, name: usize, to: usize) -> b
     }
     let from = replica::is_active_at(table, sender);
     let at = replica::is_active_at(table, to);
-    if name == 0 {
+    if name == AG {
         if from {
             return !at;
         }
         return true;
     }
-    if name == 1 {
+    if name == UP {
         if from {
             return at;
         }
@@ -376,11 +382,11 @@ fn has_wrong_roles(table: &[u32; 7], sender: usize, name: usize, to: usize) -> b
 fn receive(
     standing: Standing,
     leader: usize,
-    noted: &[u32; 64],
-    marks: &[u32; 64],
-    accepted: &[u32; 21],
-    table: &[u32; 7],
-    requests: &[u32; 64],
+    noted: &Requests,
+    marks: &Marks,
+    accepted: &Accepted,
+    table: &Table,
+    requests: &Requests,
     submitted: usize,
     sender: usize,
     name: usize,
@@ -400,8 +406,8 @@ fn receive(
     if has_wrong_roles(table, sender, name, to) {
         return Decision::Refuse(Answer::WrongRoles);
     }
-    let last = wide(replica::accepted_of(accepted, sender, name));
-    if validity::is_next(value, last) {
+    let last = terms::index(replica::accepted_of(accepted, sender, name));
+    if ledger::is_next(value, last) {
         return on_content(
             standing,
             leader,
@@ -422,11 +428,11 @@ fn receive(
 fn deliver(
     standing: Standing,
     leader: usize,
-    noted: &[u32; 64],
-    marks: &[u32; 64],
-    accepted: &[u32; 21],
-    table: &[u32; 7],
-    requests: &[u32; 64],
+    noted: &Requests,
+    marks: &Marks,
+    accepted: &Accepted,
+    table: &Table,
+    requests: &Requests,
     submitted: usize,
     ledger: &Ledger,
     issued: &Issued,
@@ -467,10 +473,10 @@ fn hold(
     standing: Standing,
     roles: Roles,
     desk: Desk,
-    table: &[u32; 7],
-    requests: &[u32; 64],
-    heads: &[[usize; 3]; 8],
-    lists: &[[u32; 64]; 8],
+    table: &Table,
+    requests: &Requests,
+    heads: &Heads,
+    lists: &Lists,
     ledger: &Ledger,
     issued: &Issued,
     p: u32,
@@ -518,10 +524,10 @@ fn hand(
     standing: Standing,
     roles: Roles,
     desk: Desk,
-    table: &[u32; 7],
-    requests: &[u32; 64],
-    heads: &[[usize; 3]; 8],
-    lists: &[[u32; 64]; 8],
+    table: &Table,
+    requests: &Requests,
+    heads: &Heads,
+    lists: &Lists,
     ledger: &Ledger,
     issued: &Issued,
     p: u32,
@@ -534,12 +540,12 @@ fn hand(
     if is_faulty(condition) {
         return Decision::Refuse(Answer::ReceiverFaulty);
     }
-    let first = ledger::look_up(ledger, issued, roles.switcher, 0, p);
-    let second = ledger::look_up(ledger, issued, roles.switcher, 1, q);
+    let first = ledger::look_up(ledger, issued, roles.switcher, AG, p);
+    let second = ledger::look_up(ledger, issued, roles.switcher, UP, q);
     match first {
         ContentChoice::Content(content) => match second {
             ContentChoice::Content(_) => {
-                let h = validity::first_of(content);
+                let h = ledger::first_of(content);
                 hold(
                     standing,
                     roles,
@@ -578,8 +584,8 @@ fn panic(condition: Condition) -> Decision
 fn build(
     standing: Standing,
     roles: Roles,
-    accepted: &[u32; 21],
-    table: &[u32; 7],
+    accepted: &Accepted,
+    table: &Table,
     issued: &Issued,
 ) -> Decision
     ensures { λ r. ⌜ r ≡ decideBuildOn standing roles (now (accepted .entry)) (now (table .entry)) (now (issued .entry)) ⌝ }
@@ -594,7 +600,7 @@ fn build(
     if standing.holding {
         return Decision::Refuse(Answer::CannotBuild);
     }
-    let k = ledger::total(issued, roles.switcher, 0);
+    let k = ledger::total(issued, roles.switcher, AG);
     let j = replica::settled_count(accepted, table, roles.leader, roles.switcher, k);
     Decision::Build(j, k)
 }
@@ -603,7 +609,7 @@ fn build(
 fn file(filed: usize, j: u32, k: u32) -> Decision
     ensures { λ r. ⌜ r ≡ decideFileOn filed j k ⌝ }
 {
-    if 7 <= filed {
+    if FILED <= filed {
         return Decision::Refuse(Answer::FilesFull);
     }
     Decision::File(j, k)
@@ -616,13 +622,13 @@ pub fn decide<'a>(
     standing: Standing,
     desk: Desk,
     roles: Roles,
-    noted: &'a [u32; 64],
-    marks: &'a [u32; 64],
-    accepted: &'a [u32; 21],
-    table: &[u32; 7],
-    requests: &[u32; 64],
-    heads: &[[usize; 3]; 8],
-    lists: &[[u32; 64]; 8],
+    noted: &'a Requests,
+    marks: &'a Marks,
+    accepted: &'a Accepted,
+    table: &Table,
+    requests: &Requests,
+    heads: &Heads,
+    lists: &Lists,
     ledger: &Ledger,
     issued: &Issued,
 ) -> Decision

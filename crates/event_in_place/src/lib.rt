@@ -4,14 +4,17 @@ ghost use mathlib.Core.Path.{_≡_};
 ghost use Rattle.ledger.specs.Ledger.{book};
 ghost use Rattle.carry_out.specs.Apply.{applied, applyOn};
 ghost use Rattle.event_in_place.specs.AppliedAt.{appliedAll, appliedAt};
-use carry_out::Heads;
-use carry_out::Lists;
 use ledger::Issued;
 use ledger::Ledger;
 use replica::Replica;
+use replica::Replicas;
 use room::Decision;
 use room::Desk;
 use room::Roles;
+use terms::Heads;
+use terms::Lists;
+use terms::REPLICAS;
+use terms::Table;
 
 // What a decision does to the record of the replica concerned, `me`, and to the counters.
 pub fn apply_in(
@@ -20,7 +23,7 @@ pub fn apply_in(
     desk: Desk,
     me: usize,
     roles: Roles,
-    table: &[u32; 7],
+    table: &Table,
     heads: &Heads,
     lists: &Lists,
     ledger: &mut Ledger,
@@ -44,12 +47,12 @@ pub fn apply_in(
 
 // The same of the room's records: record `me` is changed and no other; past the end nothing is.
 pub fn apply_at(
-    replicas: &mut [Replica; 7],
+    replicas: &mut Replicas,
     decision: Decision,
     desk: Desk,
     me: usize,
     roles: Roles,
-    table: &[u32; 7],
+    table: &Table,
     heads: &Heads,
     lists: &Lists,
     ledger: &mut Ledger,
@@ -57,7 +60,7 @@ pub fn apply_at(
 )
     ensures { λ _. ⌜ appliedAll (now (replicas .exit)) (book (now (ledger .exit)) (now (issued .exit))) ≡ appliedAt (λ p b. applyOn p decision desk me roles (now (table .entry)) (now (heads .entry)) (now (lists .entry)) b) me (now (replicas .entry)) (book (now (ledger .entry)) (now (issued .entry))) ⌝ }
 {
-    if 7 <= me {
+    if REPLICAS <= me {
         return;
     }
     apply_in(
@@ -76,17 +79,17 @@ pub fn apply_at(
 
 // The same with the room's records by value, for every other caller.
 pub fn with_applied(
-    all: [Replica; 7],
+    all: Replicas,
     decision: Decision,
     desk: Desk,
     me: usize,
     roles: Roles,
-    table: &[u32; 7],
+    table: &Table,
     heads: &Heads,
     lists: &Lists,
     ledger: &mut Ledger,
     issued: &mut Issued,
-) -> [Replica; 7]
+) -> Replicas
     ensures { λ r. ⌜ appliedAll r (book (now (ledger .exit)) (now (issued .exit))) ≡ appliedAt (λ p b. applyOn p decision desk me roles (now (table .entry)) (now (heads .entry)) (now (lists .entry)) b) me all (book (now (ledger .entry)) (now (issued .entry))) ⌝ }
 {
     let mut replicas = all;

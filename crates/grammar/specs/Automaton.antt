@@ -1,5 +1,6 @@
--- The judge, one number at a time: what it says in each phase and what it knows afterwards. That it is the plain parser of Parser is
--- proved in Judging. Assumes nothing.
+-- The judge, one number at a time: what it says in each phase and what it knows afterwards. In order: what it knows, part by part, and in the
+-- code's one flat record; a step; the phases of the settings, of the table and of the events; the judge (`feedOf`, `fresh`). That it is the plain
+-- parser of Parser is proved in Judging. Assumes nothing.
 use mathlib.Core.Bool.{Bool, false, _||_, _&&_}
 use mathlib.Core.List.{[], _∷_}
 use Prim.Native.Nat.{ℕ, _+_, _-_, _/_}

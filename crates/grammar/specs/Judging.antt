@@ -1,4 +1,7 @@
--- The judge, fed a list of numbers one at a time, says what the plain parser says of the list. Assumes nothing.
+-- The judge, fed a list of numbers one at a time, says what the plain parser says of the list (`judge-parses`). In order: the judge fed a list
+-- (`run`) and the parser's answer part by part (`after`); a phase that goes by one test (`phase`); from the inside outwards the phases of the
+-- requests, the operands, an event, the events, the table (its tally counts what the parser counts, `tally-is`) and the kit; last, with which
+-- answers the judge refuses (`refuses-fault`). Assumes nothing.
 use mathlib.Core.Path.{_≡_, refl, sym, ap, _∙_}
 use mathlib.Core.Bool.{Bool, true, false, _&&_, _||_}
 use mathlib.Core.List.{List, [], _∷_, _++_}
@@ -77,7 +80,10 @@ after-ext (Read a ns) κ κ′ e = e a ns refl
 
 -- ---- a phase that goes by one test
 
-module _ {A : Type 0} (j : Judge) (test : ℕ → Bool) (fault : KitAnswer) (step : ℕ → Move) (feeds : (n : ℕ) → feedOf j n ≡ stepOf (pick (test n) (step n) (refusedOf fault (j .phase) (stateOf j)))) (go : ℕ → List ℕ → Parsed A) (κ : A → List ℕ → KitAnswer) (on-so : (n : ℕ) (ns : List ℕ) → test n ≡ true → heard (step n) ns ≡ after (go n ns) κ) where
+module _ {A : Type 0} (j : Judge) (test : ℕ → Bool) (fault : KitAnswer) (step : ℕ → Move)
+    (feeds : (n : ℕ) → feedOf j n ≡ stepOf (pick (test n) (step n) (refusedOf fault (j .phase) (stateOf j))))
+    (go : ℕ → List ℕ → Parsed A) (κ : A → List ℕ → KitAnswer)
+    (on-so : (n : ℕ) (ns : List ℕ) → test n ≡ true → heard (step n) ns ≡ after (go n ns) κ) where
   phase : (ns : List ℕ) → run ns j ≡ after (number ns test fault go) κ
   phase [] = refl
   phase (n ∷ ns) = rw (feeds n) (split (test n) (λ t. rw t (on-so n ns t)) (λ t. rw t))
@@ -158,12 +164,15 @@ module _ (s : State) (kind : Kind) where
       rw (lt-ltb (length ops) (length (operandsOf kind)) (omega arith))
       (phase (on Phase.Operand (reading ops)) (fits o (s .size) ops) WrongEvent (λ n. operandGoes (reading (ops ++ (n ∷ []))))
       (λ n. ap stepOf (operand-feeds done o row ops n is same)) _ _
-      (λ n ms t. operands-phase row (done ++ (o ∷ [])) (ops ++ (n ∷ [])) ms (is ∙ sym (append-snoc done o row)) (length-append ops (n ∷ []) ∙ rw (same, length-append done (o ∷ [])))) ns)
+      (λ n ms t.
+      let is-one-on = is ∙ sym (append-snoc done o row) in
+      operands-phase row (done ++ (o ∷ [])) (ops ++ (n ∷ [])) ms is-one-on (length-append ops (n ∷ []) ∙ rw (same, length-append done (o ∷ [])))) ns)
 
 -- ---- an event
 
 -- whatever follows the event goes by κ, whatever was read of it
-module _ (s : State) (κ : List ℕ → KitAnswer) (rest-so : (p : Pending) (x : ℕ) (ns : List ℕ) → heard (completed (withRequests (withPending s p) x)) ns ≡ κ ns) where
+module _ (s : State) (κ : List ℕ → KitAnswer)
+    (rest-so : (p : Pending) (x : ℕ) (ns : List ℕ) → heard (completed (withRequests (withPending s p) x)) ns ≡ κ ns) where
   kind-goes : (gap : ℕ) (choice : KindChoice) (ns : List ℕ) → heard (kindGoes s choice) ns ≡ after (eventAfter (s .size) gap choice ns) (λ e. κ)
   unfolding filing
   kind-goes gap KindChoice.Refused ns = refl
@@ -301,8 +310,10 @@ tally-is f leader l few below long =
     let half : replicas f / 2 ≡ f = omega arith in
     let turn = replicas f - leader in
     let start = emptyTally (replicas f) in
-    let a : tallyAll start turn l .active ≡ countOf marksActive l = tally-counts turn (λ (t : Tally). t .active) marksActive (λ t n. refl) l start (omega arith) ∙ zero-add (countOf marksActive l) in
-    let b : tallyAll start turn l .faulty ≡ countOf marksFaulty l = tally-counts turn (λ (t : Tally). t .faulty) marksFaulty (λ t n. refl) l start (omega arith) ∙ zero-add (countOf marksFaulty l) in
+    let a : tallyAll start turn l .active ≡ countOf marksActive l =
+    tally-counts turn (λ (t : Tally). t .active) marksActive (λ t n. refl) l start (omega arith) ∙ zero-add (countOf marksActive l) in
+    let b : tallyAll start turn l .faulty ≡ countOf marksFaulty l =
+    tally-counts turn (λ (t : Tally). t .faulty) marksFaulty (λ t n. refl) l start (omega arith) ∙ zero-add (countOf marksFaulty l) in
     let c : tallyAll start turn l .leads ≡ marksActive (getD l leader 0) =
     tally-leads l start turn ∙ ap (λ (m : ℕ). leadsFrom m (m - leader) l) (sym long) ∙ leads-is l leader (omega arith) in
     rw (a, b, c, half)
@@ -338,8 +349,9 @@ table-all : (f leader patience : ℕ) (ns : List ℕ) → f ≤ 3 → leader < r
 unfolding fresh
 table-all f leader patience ns few below =
     let s = tabled f leader in
+    let then : List ℕ → List ℕ → KitAnswer = λ t ms. heard (tableDone (withTally s (tallyAll (s .tally) (s .turn) t))) ms in
     table-phase (f + f) s ns (add-one (f + f))
-    ∙ ap (λ (m : ℕ). after (several m (alone isTableNumber WrongSettings) ns) (λ t ms. heard (tableDone (withTally s (tallyAll (s .tally) (s .turn) t))) ms)) (sym (add-one (f + f)))
+    ∙ ap (λ (m : ℕ). after (several m (alone isTableNumber WrongSettings) ns) then) (sym (add-one (f + f)))
     ∙ after-ext (several (replicas f) (alone isTableNumber WrongSettings) ns) _ _ (λ t ms e.
     let long = table-reads (replicas f) .only ns t ms e .1 .0 in
     table-done f leader patience (withTally s (tallyAll (s .tally) (s .turn) t)) t ms refl (tally-is f leader t few below long))

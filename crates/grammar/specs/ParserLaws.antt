@@ -1,4 +1,6 @@
--- The lists of numbers that Parser reads as a kit are the numbers of document 01's kits, and no others. Assumes nothing.
+-- The lists of numbers that Parser reads as a kit are the numbers of document 01's kits, and no others. In order: what a reading that came to its
+-- end has read, and `Reads` (exactly the numbers of the good things) for a number by itself and for so many things; the operands of a kind and its
+-- event; a kit (`kit-reads`), and the laws by which others know it; nothing is refused with "accepted" (`answer-accepted`). Assumes nothing.
 use mathlib.Core.Path.{_≡_, refl, sym, ap, _∙_}
 use mathlib.Core.Bool.{Bool, true, false, _||_}
 use mathlib.Core.List.{List, [], _∷_, _++_, append-assoc, append-nil}
@@ -81,7 +83,8 @@ alone-reads test fault =
 abbrev pub AllGood : {A : Type 0} → (A → Type 0) → ℕ → List A → Type 0
 AllGood Good m l = (length l ≡ m) × ((i : ℕ) (a : _) → nth l i ≡ some a → Good a)
 
-module _ {A : Type 0} {one : List ℕ → Parsed A} {numbers : A → List ℕ} {Good : A → Type 0} (reads : Reads one numbers Good) (joined : List A → List ℕ) (none : joined [] ≡ []) (more : (a : A) (l : List A) → joined (a ∷ l) ≡ numbers a ++ joined l) where
+module _ {A : Type 0} {one : List ℕ → Parsed A} {numbers : A → List ℕ} {Good : A → Type 0} (reads : Reads one numbers Good)
+    (joined : List A → List ℕ) (none : joined [] ≡ []) (more : (a : A) (l : List A) → joined (a ∷ l) ≡ numbers a ++ joined l) where
   several-only : (m : ℕ) (ns : List ℕ) (l : List A) (rest : List ℕ) → several m one ns ≡ Read l rest → (ns ≡ joined l ++ rest) × AllGood Good m l
   several-only zero ns l rest e =
       let q : [] ≡ l = cc in
@@ -137,7 +140,9 @@ content-only (suc (suc zero)) a b w u = (Content.Commit a b, refl, refl)
 content-only (suc (suc (suc zero))) a b w u = (Content.Update a b, refl, refl)
 content-only (suc (suc (suc (suc zero)))) a b w u = let z : b ≡ 0 = eqb-true b 0 u in (Content.History a, rw (u), cc)
 content-only (suc (suc (suc (suc (suc zero))))) a b w u = let z : b ≡ 0 = eqb-true b 0 u in (Content.Switch a, rw (u), cc)
-content-only (suc (suc (suc (suc (suc (suc k)))))) a b w u = absurd (omega (arith, leb-true (suc (suc (suc (suc (suc (suc k)))))) 5 (and-r (leb 1 (suc (suc (suc (suc (suc (suc k))))))) (leb (suc (suc (suc (suc (suc (suc k)))))) 5) w)))
+content-only (suc (suc (suc (suc (suc (suc k)))))) a b w u =
+    let kind = suc (suc (suc (suc (suc (suc k))))) in
+    absurd (omega (arith, leb-true kind 5 (and-r (leb 1 kind) (leb kind 5) w)))
 
 kind-above : (n : ℕ) → 8 < n → kindOf n ≡ KindChoice.Refused
 unfolding kindOf
@@ -164,7 +169,8 @@ kind-only (suc (suc (suc (suc (suc zero))))) kind e = let z : Kind.Panic ≡ kin
 kind-only (suc (suc (suc (suc (suc (suc zero)))))) kind e = let z : Kind.Idle ≡ kind = cc in rw (← z)
 kind-only (suc (suc (suc (suc (suc (suc (suc zero))))))) kind e = let z : Kind.Build ≡ kind = cc in rw (← z)
 kind-only (suc (suc (suc (suc (suc (suc (suc (suc zero)))))))) kind e = let z : Kind.File ≡ kind = cc in rw (← z)
-kind-only (suc (suc (suc (suc (suc (suc (suc (suc (suc k))))))))) kind e = no-way (cc (kind-above (suc (suc (suc (suc (suc (suc (suc (suc (suc k))))))))) (omega arith)))
+kind-only (suc (suc (suc (suc (suc (suc (suc (suc (suc k))))))))) kind e =
+    no-way (cc (kind-above (suc (suc (suc (suc (suc (suc (suc (suc (suc k))))))))) (omega arith)))
 
 -- no requests follow the other kinds
 none-filed : (mid l rest : List ℕ) → several 0 (alone isRequest WrongEvent) mid ≡ Read l rest → (l ≡ []) × (mid ≡ rest)
@@ -267,7 +273,8 @@ entry-reads size =
       every = λ e rest good. rw (le-leb (e .gap) ticksMax (good .gap)) (event-every size (e .gap) (e .event) (e .requests) rest (good .event));
     }
   where
-    after-gap : (gap : ℕ) (ns : List ℕ) (e : Entry) (rest : List ℕ) → gap ≤ ticksMax → kindAfter size gap ns ≡ Read e rest → (gap ∷ ns ≡ entryNumbers e ++ rest) × GoodEntry size e
+    after-gap : (gap : ℕ) (ns : List ℕ) (e : Entry) (rest : List ℕ) → gap ≤ ticksMax → kindAfter size gap ns ≡ Read e rest
+        → (gap ∷ ns ≡ entryNumbers e ++ rest) × GoodEntry size e
     after-gap gap [] e rest small h = no-way (cc)
     after-gap gap (n ∷ ns) e rest small h =
         let k = event-only size gap n (kindOf n) ns e rest refl h in
@@ -356,11 +363,13 @@ kit-only ns k rest h =
 kit-every : (k : Kit) (rest : List ℕ) → GoodKit k → parse (kitNumbers k ++ rest) ≡ Read k rest
 unfolding parse kitNumbers
 kit-every k rest g =
+    let behind = length (k .events) ∷ (entriesNumbers (k .events) ++ rest) in
     rw (append-assoc, le-leb 1 (k .f) (g .f-low), le-leb (k .f) faultsMax (g .f-high), lt-ltb (k .leader) (replicas (k .f)) (g .leader-below))
     (rw (
       le-leb 1 (k .patience) (g .patience-low),
       le-leb (k .patience) ticksMax (g .patience-high),
-      table-reads (replicas (k .f)) .every (k .table) (length (k .events) ∷ (entriesNumbers (k .events) ++ rest)) (g .table-length, λ i a h. allOf-at (k .table) isTableNumber (g .table-numbers) i a h),
+      table-reads (replicas (k .f)) .every (k .table) behind
+          (g .table-length, λ i a h. allOf-at (k .table) isTableNumber (g .table-numbers) i a h),
     )
     (rw (
       g .leader-active,

@@ -4,7 +4,6 @@ ghost use mathlib.Core.Bool.{_||_, _&&_};
 ghost use mathlib.Core.List.{_∷_, []};
 ghost use lib.Dec.{eqb};
 ghost use Prim.Native.Nat.{_-_, _<_};
-ghost use Rattle.terms.specs.Kit.{marksActive, marksFaulty};
 ghost use Rattle.terms.specs.Lists.{pick};
 ghost use Rattle.grammar.specs.Automaton.{stepOf, judgeOf, stateOf, tallyOf, pendingOf, withTally, withPending, begun, kept, moreOf, doneOf, refusedOf, atF, atLeader, atPatience, atTable, tallied, tableDone, atCount, atGap, atKind, operandGoes, filing, atOperand, atRequest, completed, plusOne, feedOf, fresh};
 use operands::Operand;
@@ -168,18 +167,6 @@ fn at_patience(s: Judge, n: u32) -> Step
     }
 }
 
-fn marks_active(n: u32) -> bool
-    ensures { λ r. ⌜ r ≡ marksActive n ⌝ }
-{
-    if n == 1 { true } else { n == 3 }
-}
-
-fn marks_faulty(n: u32) -> bool
-    ensures { λ r. ⌜ r ≡ marksFaulty n ⌝ }
-{
-    if n == 2 { true } else { n == 3 }
-}
-
 // One more where the test holds, as far as 32 bits go.
 fn plus_one(holds: bool, x: u32) -> u32
     ensures { λ r. ⌜ r ≡ plusOne holds x ⌝ }
@@ -211,12 +198,12 @@ fn minus_one(x: u32) -> u32
 fn counted(s: Judge, n: u32) -> Judge
     ensures { λ r. ⌜ r ≡ judgeOf (s .phase) (withTally (stateOf s) (tallied (tallyOf s) (s .turn) n)) ⌝ }
 {
-    let active = marks_active(n);
+    let active = terms::marks_active(n);
     let mut k = s;
     k.leads = leading(s.leads, active, s.coming == s.turn);
     k.coming = minus_one(s.coming);
     k.active = plus_one(active, s.active);
-    k.faulty = plus_one(marks_faulty(n), s.faulty);
+    k.faulty = plus_one(terms::marks_faulty(n), s.faulty);
     k
 }
 

@@ -1,4 +1,4 @@
-// Asks `replica::holds` what a text asks. A line that starts with # is a title, and is printed as it stands. A line that starts with `list`
+// Asks `terms::holds` what a text asks. A line that starts with # is a title, and is printed as it stands. A line that starts with `list`
 // has the list of the questions after it, at most 64 requests; every place behind them is 0. Any other line is a question, a count and a
 // request: whether the first so many of the list hold it. It is printed with its answer, yes or no. Numbers are decimal.
 use libc::STDIN_FILENO;
@@ -64,7 +64,7 @@ fn ask(list: &[u32; 64], line: &[u8]) {
     io::print_decimal(STDOUT_FILENO, count.value as u64);
     io::write_all(STDOUT_FILENO, b" ");
     io::print_decimal(STDOUT_FILENO, request as u64);
-    if replica::holds(list, count.value, request) {
+    if terms::holds(list, count.value, request) {
         io::write_all(STDOUT_FILENO, b" yes\n");
     } else {
         io::write_all(STDOUT_FILENO, b" no\n");

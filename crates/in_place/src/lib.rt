@@ -5,6 +5,8 @@ ghost use Rattle.replica.specs.Record.{noteOn, haltOn, holdOn, closeOn};
 ghost use Rattle.in_place.specs.ChangedAt.{changedAt};
 ghost use Rattle.in_place.specs.Delivered.{deliveredOn};
 use replica::Replica;
+use replica::Replicas;
+use terms::REPLICAS;
 
 // What is delivered of a certificate: whose counter it is of, the counter's name, and the value.
 pub struct Certificate {
@@ -60,40 +62,40 @@ pub fn close_in(r: &mut Replica, mark: u32)
 // ---- one of the room's seven records, where it stands; all others are untouched, and past the end nothing is changed
 
 // Replica x halts.
-pub fn halt_at(replicas: &mut [Replica; 7], x: usize)
+pub fn halt_at(replicas: &mut Replicas, x: usize)
     ensures { λ _. ⌜ now (replicas .exit) ≡ changedAt haltOn x (now (replicas .entry)) ⌝ }
 {
-    if 7 <= x {
+    if REPLICAS <= x {
         return;
     }
     halt_in(&mut replicas[x]);
 }
 
 // A certificate is delivered to replica x.
-pub fn deliver_at(replicas: &mut [Replica; 7], x: usize, c: Certificate)
+pub fn deliver_at(replicas: &mut Replicas, x: usize, c: Certificate)
     ensures { λ _. ⌜ now (replicas .exit) ≡ changedAt (λ p. deliveredOn p c) x (now (replicas .entry)) ⌝ }
 {
-    if 7 <= x {
+    if REPLICAS <= x {
         return;
     }
     deliver_in(&mut replicas[x], c);
 }
 
 // Replica x holds a handed history.
-pub fn hold_at(replicas: &mut [Replica; 7], x: usize, history: u32)
+pub fn hold_at(replicas: &mut Replicas, x: usize, history: u32)
     ensures { λ _. ⌜ now (replicas .exit) ≡ changedAt (λ p. holdOn p history) x (now (replicas .entry)) ⌝ }
 {
-    if 7 <= x {
+    if REPLICAS <= x {
         return;
     }
     hold_in(&mut replicas[x], history);
 }
 
 // Replica x closes, with the mark of the list that it has settled.
-pub fn close_at(replicas: &mut [Replica; 7], x: usize, mark: u32)
+pub fn close_at(replicas: &mut Replicas, x: usize, mark: u32)
     ensures { λ _. ⌜ now (replicas .exit) ≡ changedAt (λ p. closeOn p mark) x (now (replicas .entry)) ⌝ }
 {
-    if 7 <= x {
+    if REPLICAS <= x {
         return;
     }
     close_in(&mut replicas[x], mark);
@@ -102,7 +104,7 @@ pub fn close_at(replicas: &mut [Replica; 7], x: usize, mark: u32)
 // ---- the seven by value, for every other caller
 
 // The records with replica x halted.
-pub fn with_halted(all: [Replica; 7], x: usize) -> [Replica; 7]
+pub fn with_halted(all: Replicas, x: usize) -> Replicas
     ensures { λ r. ⌜ r ≡ changedAt haltOn x all ⌝ }
 {
     let mut replicas = all;
@@ -111,7 +113,7 @@ pub fn with_halted(all: [Replica; 7], x: usize) -> [Replica; 7]
 }
 
 // The records with a certificate delivered to replica x.
-pub fn with_delivered(all: [Replica; 7], x: usize, c: Certificate) -> [Replica; 7]
+pub fn with_delivered(all: Replicas, x: usize, c: Certificate) -> Replicas
     ensures { λ r. ⌜ r ≡ changedAt (λ p. deliveredOn p c) x all ⌝ }
 {
     let mut replicas = all;
@@ -120,7 +122,7 @@ pub fn with_delivered(all: [Replica; 7], x: usize, c: Certificate) -> [Replica; 
 }
 
 // The records with a history held by replica x.
-pub fn with_held(all: [Replica; 7], x: usize, history: u32) -> [Replica; 7]
+pub fn with_held(all: Replicas, x: usize, history: u32) -> Replicas
     ensures { λ r. ⌜ r ≡ changedAt (λ p. holdOn p history) x all ⌝ }
 {
     let mut replicas = all;
@@ -129,7 +131,7 @@ pub fn with_held(all: [Replica; 7], x: usize, history: u32) -> [Replica; 7]
 }
 
 // The records with replica x closed.
-pub fn with_closed(all: [Replica; 7], x: usize, mark: u32) -> [Replica; 7]
+pub fn with_closed(all: Replicas, x: usize, mark: u32) -> Replicas
     ensures { λ r. ⌜ r ≡ changedAt (λ p. closeOn p mark) x all ⌝ }
 {
     let mut replicas = all;

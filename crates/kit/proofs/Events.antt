@@ -55,7 +55,9 @@ size-most f =
 pub opened : (bytes : List ℕ) (f leader patience count : Taken) (size at : ℕ) (table : List ℕ)
     → f ≡ takeAt bytes 0 → leader ≡ takeAt bytes (f .next) → patience ≡ takeAt bytes (leader .next) → size ≡ sizeOf (f .value)
     → Stretched (stretchAt size bytes (patience .next)) (replicate 7 0) table at → count ≡ takeAt bytes at
-    → _≡_ {A = Settings} (record { f = f .value; size = size; leader = leader .value; patience = patience .value; table = table; count = count .value; first = count .next }) (settingsIn bytes)
+    → _≡_ {A = Settings}
+    (record { f = f .value; size = size; leader = leader .value; patience = patience .value; table = table; count = count .value; first = count .next })
+    (settingsIn bytes)
 unfolding settingsIn
 opened bytes f leader patience count size at table is-f is-leader is-patience is-size st is-count =
     rw (is-count, st .next, st .filled) (rw (over-zeros 7 (stretchAt size bytes (patience .next) .numbers)) (rw (is-size, is-patience, is-leader, is-f)))

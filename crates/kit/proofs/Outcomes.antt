@@ -78,5 +78,6 @@ module _ (bytes out : List ℕ) (a : KitAnswer) (is : a ≡ checkOf bytes) where
     read-all fits out′ r st =
         let room = le-leb (length (numbersIn bytes .list)) (length out) (rw (← counted) fits) in
         let filled : out′ ≡ over out 0 (numbersIn bytes .list) = st .filled ∙ rw counted (rw (stretch-numbers bytes)) in
-        let c = came-all (checkOf bytes) (length (numbersIn bytes .list)) (length out) out (numbersIn bytes .list) (rw (← is) e) room out′ count counted filled in
+        let numbers = numbersIn bytes .list in
+        let c = came-all (checkOf bytes) (length numbers) (length out) out numbers (rw (← is) e) room out′ count counted filled in
         record { answer = c .0; numbers = c .1 }

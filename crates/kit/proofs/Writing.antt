@@ -1,5 +1,6 @@
--- Turns of the writer's loops, on plain values: judging the numbers, measuring their spellings, writing them, counting them.
--- Assumes nothing.
+-- Turns of the writer's loops, on plain values. In order, each with what holds at the loop's head: judging the numbers (`Hearing`), measuring their
+-- spellings (`Measuring`), writing them (`Putting`), counting the numbers of some bytes (`Counting`). Each says that what is still to come gives,
+-- from here, what the whole gives from the start. Assumes nothing.
 use mathlib.Core.Path.{_≡_, refl, sym, ap, _∙_}
 use mathlib.Core.Bool.{true, false}
 use mathlib.Core.List.{List, [], _∷_, _++_, append-nil}

@@ -1,4 +1,6 @@
--- The kit that accepted bytes spell, read from the bytes: its settings, and its events one after another by a cursor. Assumes nothing.
+-- The kit that accepted bytes spell, read from the bytes: its settings, and its events one after another by a cursor. In order: accepted bytes and
+-- their kit; the settings (`opened`) and where the first event stands; an event, from its numbers; the cursor, which goes from an event to the next
+-- (`first-cursor`, `next-cursor`). Assumes nothing.
 use mathlib.Core.Path.{_≡_, refl, sym, ap, _∙_}
 use mathlib.Core.List.{List, [], _∷_, _++_, append-assoc}
 use mathlib.Core.Option.{some}

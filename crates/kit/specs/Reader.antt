@@ -1,5 +1,6 @@
--- What a kit's bytes say: the kit number of any bytes, the kit of accepted ones, its settings, and the event at a place. Each is defined
--- on all bytes. Laws: ReaderLaws, Cursor. Assumes nothing.
+-- What a kit's bytes say, each defined on all bytes. In order: the numbers that they spell; their kit number and, of accepted ones, the kit
+-- (`checkOf`); one number after another from a place on; the settings (`settingsIn`); the event at a place, and what it leaves in the list that is
+-- lent for requests (`nextIn`, `listAfter`). Laws: SpellingLaws, Cursor. Assumes nothing.
 use mathlib.Core.Path.{_≡_}
 use mathlib.Core.Bool.{Bool, true, false}
 use mathlib.Core.List.{List, [], _∷_, _++_}

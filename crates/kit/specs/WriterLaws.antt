@@ -131,7 +131,8 @@ module _ (a : KitAnswer) (vs out out′ : List ℕ) (r : Outcome) (is : r ≡ ou
   pub filled-so : out′ ≡ filledIn (outcomeOf a (length vs) (length out)) out vs → a ≡ KitAnswer.Accepted → length vs ≤ length out
       → (r .answer ≡ KitAnswer.Accepted) × (take (r .count) out′ ≡ vs)
   filled-so bytes ok fits =
-      let all : outcomeOf a (length vs) (length out) ≡ record { answer = KitAnswer.Accepted; count = length vs } = rw ok (outcome-all (length vs) (length out) fits) in
+      let all : outcomeOf a (length vs) (length out) ≡ record { answer = KitAnswer.Accepted; count = length vs } =
+      rw ok (outcome-all (length vs) (length out) fits) in
       let r-is : r ≡ record { answer = KitAnswer.Accepted; count = length vs } = is ∙ all in
       let over-is : out′ ≡ over out 0 vs = bytes ∙ rw all in
       rw (r-is, over-is) (refl, take-over out vs)

@@ -11,7 +11,7 @@ use Rattle.terms.specs.Tabulate.{tab, grid}
 use Rattle.terms.specs.declared.Content.{Content}
 use Rattle.terms.specs.declared.ContentChoice.{ContentChoice}
 use Rattle.terms.specs.declared.ContentChoice.the-variants as ContentChoice
-use Rattle.ledger.specs.Ledger.{Places}
+use Rattle.ledger.specs.Ledger.{Places, Ledger, Issued}
 
 -- a content or none, as it is looked up
 abbrev pub choiceOf : Option Content → ContentChoice
@@ -26,8 +26,8 @@ placeOf (some c) = contentNumbers c
 unfoldable pub layPlaces : List Content → Places
 layPlaces issued = tab placesMax (λ i. placeOf (nth issued i))
 
-unfoldable pub layLedger : (ℕ → ℕ → List Content) → List Places
+unfoldable pub layLedger : (ℕ → ℕ → List Content) → Ledger
 layLedger counter = grid (λ x name. layPlaces (counter x name))
 
-unfoldable pub layIssued : (ℕ → ℕ → List Content) → List ℕ
+unfoldable pub layIssued : (ℕ → ℕ → List Content) → Issued
 layIssued counter = grid (λ x name. length (counter x name))

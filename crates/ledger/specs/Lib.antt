@@ -1,3 +1,4 @@
 pub mod Ledger
 pub mod LedgerLayout
 pub mod LedgerLaws
+pub mod ContentLaws

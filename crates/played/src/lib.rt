@@ -18,21 +18,11 @@ pub enum View {
 
 // ---- the room before the first event
 
-// Whether a table's number marks a faulty replica.
-fn is_faulty(n: u32) -> bool
-    ensures { λ r. ⌜ r ≡ marksFaulty n ⌝ }
-{
-    if n == 2 {
-        return true;
-    }
-    n == 3
-}
-
 // The replica of a table's number, before the first event.
 fn fresh_replica(n: u32) -> Replica
     ensures { λ r. ⌜ r ≡ freshRecord (marksFaulty n) ⌝ }
 {
-    Replica::fresh(is_faulty(n))
+    Replica::fresh(terms::marks_faulty(n))
 }
 
 // The replicas of a table, before the first event.

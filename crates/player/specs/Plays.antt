@@ -13,6 +13,7 @@ use Rattle.terms.specs.Tabulate.{tab-constant}
 use Rattle.terms.specs.Kit.{Kit}
 use Rattle.rules.specs.Room.{freshRoom}
 use Rattle.rules.specs.Play.{after, play}
+use Rattle.ledger.specs.Ledger.{freshLedger, freshIssued}
 use Rattle.ledger.specs.LedgerLaws.{fresh-ledger, fresh-issued}
 use Rattle.replica.specs.declared.Replica.{Replica}
 use Rattle.room.specs.Desk.{freshDesk}
@@ -33,8 +34,8 @@ freshParts replicas =
       ticks = replicate 64 0;
       heads = replicate 8 (replicate 3 0);
       lists = replicate 8 (replicate 64 0);
-      ledger = replicate 21 (replicate 96 (replicate 3 0));
-      issued = replicate 21 0;
+      ledger = freshLedger;
+      issued = freshIssued;
       replicas = replicas;
     }
 

@@ -1,26 +1,28 @@
 // The player: the first events of a kit, one after the other, on the room's parts. The loop owns the replicas' records and is lent the rest, so
 // that no function takes the room; an event is read, the clock ticks, what it comes to is decided, and that is carried out.
 ghost use mathlib.Core.Path.{_≡_};
-ghost use Prim.Native.Nat.{min};
 ghost use Rattle.player.specs.Turn.{left, playOn};
 use ledger::Issued;
 use ledger::Ledger;
 use replica::Replica;
+use replica::Replicas;
 use room::Desk;
 use room::Roles;
 use room::Standing;
+use terms::Answers;
+use terms::Clocks;
+use terms::EVENTS;
+use terms::Heads;
+use terms::Lists;
+use terms::REQUESTS;
+use terms::Requests;
+use terms::Table;
+use terms::Ticks;
 
 // What the loop itself owned when the play ended; the other parts stand in what it was lent.
 pub struct Played {
     pub desk: Desk,
-    pub replicas: [Replica; 7],
-}
-
-// So many, and no more than a kit has.
-fn at_most(most: usize) -> usize
-    ensures { λ r. ⌜ r ≡ min most 4096 ⌝ }
-{
-    if most < 4096 { most } else { 4096 }
+    pub replicas: Replicas,
 }
 
 // Plays the first `most` events of a kit whose first event stands at `first`, from a fresh desk, these records and what is lent. After it
@@ -30,14 +32,14 @@ pub fn play(
     first: usize,
     most: usize,
     roles: Roles,
-    table: &[u32; 7],
-    fresh: [Replica; 7],
-    answers: &mut [u32; 4096],
-    clocks: &mut [u64; 4096],
-    requests: &mut [u32; 64],
-    ticks: &mut [u64; 64],
-    heads: &mut [[usize; 3]; 8],
-    lists: &mut [[u32; 64]; 8],
+    table: &Table,
+    fresh: Replicas,
+    answers: &mut Answers,
+    clocks: &mut Clocks,
+    requests: &mut Requests,
+    ticks: &mut Ticks,
+    heads: &mut Heads,
+    lists: &mut Lists,
     ledger: &mut Ledger,
     issued: &mut Issued,
 ) -> Played
@@ -45,9 +47,9 @@ pub fn play(
 {
     let mut replicas = fresh;
     let mut desk = Desk::fresh();
-    let mut list = [0u32; 64];
+    let mut list = [0u32; REQUESTS];
     let mut at = first;
-    let n = at_most(most);
+    let n = terms::lesser(most, EVENTS);
     let mut k: usize = 0;
     while k < n {
         let e = kit::next_event(bytes, at, &mut list);

@@ -1,4 +1,4 @@
--- The invariants of the three loops, and one turn of each. Assumes nothing.
+-- The invariants of two loops, and one turn of each. Assumes nothing.
 use mathlib.Core.Path.{_≡_, refl, sym, ap, _∙_}
 use mathlib.Core.Bool.{Bool, true, false}
 use mathlib.Core.Logic.{_≢_}
@@ -9,41 +9,11 @@ use native.Mathlib.Numerals.{add-one}
 use lib.ListN.{length, take, drop, getD, length-take, drop-of-length-le}
 use lib.Seq.{drop-cons, getD-take}
 use borrow.Author.Tests.{ne-eqb}
+use Rattle.terms.specs.Limits.{replicasMax}
 use Rattle.terms.specs.Lists.{pick, holds, leastOver, countBelow}
 use Rattle.terms.specs.ListLaws.{split, holds-at, nth-getD}
 use Rattle.terms.specs.Kit.{marksActive}
 use Rattle.rules.specs.Table.{activesFrom}
-
--- ---- whether the first n of a list hold a request: from place i on, the newer ones, they do not
-
-pub record Searching (list : List ℕ) (n request i : ℕ) : Type 0 where
-  pub within : i ≤ min n (length list)
-  pub not-newer : holds request (drop i (take n list)) ≡ false
-
-pub behind-newest : {list : List ℕ} {n request i : ℕ} → i ≡ min n (length list) → Searching list n request i
-behind-newest {list} {n} {request} {i} e =
-    let end : length (take n list) ≤ i = omega (arith, e, length-take n list) in
-    record { within = omega (arith, e); not-newer = rw (drop-of-length-le (take n list) end) }
-
-module _ {list : List ℕ} {n request i : ℕ} (s : Searching list n request i) where
-  below-end : 0 < i → i - 1 < length (take n list)
-  below-end h = omega (arith, s .within, length-take n list)
-
-  looked-at : 0 < i → getD (take n list) (i - 1) 0 ≡ getD list (i - 1) 0
-  looked-at h = getD-take n list (i - 1) 0 (omega (arith, s .within))
-
-  pub found : 0 < i → getD list (i - 1) 0 ≡ request → true ≡ holds request (take n list)
-  found h e = sym (holds-at (take n list) (i - 1) request (nth-getD (take n list) (i - 1) 0 (below-end h) ∙ rw (looked-at h, e)))
-
-  pub not-here : 0 < i → (getD list (i - 1) 0 ≢ request) → Searching list n request (i - 1)
-  not-here h ne =
-      let back : suc (i - 1) ≡ i = omega arith in
-      let newer : holds request (drop (suc (i - 1)) (take n list)) ≡ false = ap (λ (k : ℕ). holds request (drop k (take n list))) back ∙ s .not-newer in
-      let other = ne-eqb request (getD list (i - 1) 0) (λ e. ne (sym e)) in
-      record { within = omega (arith, s .within); not-newer = rw (drop-cons (take n list) (i - 1) 0 (below-end h), looked-at h, other) newer }
-
-  pub none-left : i ≤ 0 → false ≡ holds request (take n list)
-  none-left h = let none : i ≡ 0 = omega arith in sym (rw none at (s .not-newer))
 
 -- ---- how many of seven pass a test
 
@@ -52,18 +22,18 @@ countBelow-le zero t = omega arith
 countBelow-le (suc n) t = split (t n) (λ e. rw e (omega (arith, countBelow-le n t))) (λ e. rw e (omega (arith, countBelow-le n t)))
 
 pub record Counting (t : ℕ → Bool) (n y : ℕ) : Type 0 where
-  pub within : y ≤ 7
+  pub within : y ≤ replicasMax
   pub so-far : n ≡ countBelow y t
 
 module _ {t : ℕ → Bool} {n y : ℕ} (s : Counting t n y) where
-  pub small : y < 7 → n < 7
+  pub small : y < replicasMax → n < replicasMax
   small h = rw (s .so-far) (omega (arith, countBelow-le y t))
 
-  pub next-counted : y < 7 → Counting t (pick (t y) (n + 1) n) (y + 1)
+  pub next-counted : y < replicasMax → Counting t (pick (t y) (n + 1) n) (y + 1)
   next-counted h = record { within = omega arith; so-far = rw (add-one y, ← s .so-far, add-one n) }
 
-  pub all-counted : 7 ≤ y → n ≡ countBelow 7 t
-  all-counted h = let e : y ≡ 7 = omega (arith, s .within) in s .so-far ∙ ap (λ (k : ℕ). countBelow k t) e
+  pub all-counted : replicasMax ≤ y → n ≡ countBelow replicasMax t
+  all-counted h = let e : y ≡ replicasMax = omega (arith, s .within) in s .so-far ∙ ap (λ (k : ℕ). countBelow k t) e
 
 -- ---- the least over the active replicas: that of replica y and those after it, and of c
 

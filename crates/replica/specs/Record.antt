@@ -5,6 +5,7 @@ use mathlib.Core.List.{List}
 use Prim.Native.Nat.{ℕ, _+_, _*_, _-_, min}
 use lib.ListN.{getD, set, replicate}
 use lib.Dec.{leb, ltb, eqb}
+use Rattle.terms.specs.Limits.{replicasMax, names, counters, requestsMax}
 use Rattle.terms.specs.Lists.{pick, leastOver, countBelow}
 use Rattle.terms.specs.Kit.{marksActive}
 use Rattle.terms.specs.declared.Condition.{Condition}
@@ -17,12 +18,12 @@ unfoldable pub freshRecord : Bool → Replica
 freshRecord faulty =
     record {
       condition = pick faulty Faulty Running;
-      noted = replicate 64 0;
+      noted = replicate requestsMax 0;
       count = 0;
-      marks = replicate 64 0;
+      marks = replicate requestsMax 0;
       pairs = 0;
       mark = 0;
-      accepted = replicate 21 0;
+      accepted = replicate counters 0;
       holding = false;
       held = 0;
     }
@@ -56,17 +57,17 @@ holdOn p history =
 -- ---- the steps
 
 unfoldable pub noteOn : Replica → ℕ → Replica
-noteOn p request = pick (leb 64 (p .count)) p (withNoted p (set (p .noted) (p .count) request) (p .count + 1))
+noteOn p request = pick (leb requestsMax (p .count)) p (withNoted p (set (p .noted) (p .count) request) (p .count + 1))
 
 unfoldable pub notePairOn : Replica → ℕ → ℕ → Replica
 notePairOn p request mark =
-    pick (leb 64 (p .count)) p
-    (pick (leb 64 (p .pairs)) p
+    pick (leb requestsMax (p .count)) p
+    (pick (leb requestsMax (p .pairs)) p
     (withPairs (withNoted p (set (p .noted) (p .count) request) (p .count + 1)) (set (p .marks) (p .pairs) mark) (p .pairs + 1)))
 
 unfoldable pub acceptOn : Replica → ℕ → ℕ → ℕ → Replica
 acceptOn p sender name value =
-    pick (leb 7 sender) p (pick (leb 3 name) p (withAccepted p (set (p .accepted) (3 * sender + name) value)))
+    pick (leb replicasMax sender) p (pick (leb names name) p (withAccepted p (set (p .accepted) (names * sender + name) value)))
 
 abbrev pub halted : Replica → Condition → Replica
 halted p Running = withCondition p Halted
@@ -83,7 +84,7 @@ closeOn p mark = markOn (withCondition p Closed) mark
 -- ---- what is read off it
 
 unfoldable pub acceptedIn : List ℕ → ℕ → ℕ → ℕ
-acceptedIn accepted sender name = pick (leb 7 sender) 0 (pick (leb 3 name) 0 (getD accepted (3 * sender + name) 0))
+acceptedIn accepted sender name = pick (leb replicasMax sender) 0 (pick (leb names name) 0 (getD accepted (names * sender + name) 0))
 
 -- the table marks replica x as active
 unfoldable pub activeIn : List ℕ → ℕ → Bool
@@ -106,7 +107,7 @@ unfoldable pub switchedIn : List ℕ → ℕ → ℕ → Bool
 switchedIn accepted size y = pick (leb size y) false (leb 1 (acceptedIn accepted y sw))
 
 unfoldable pub switchesIn : List ℕ → ℕ → ℕ
-switchesIn accepted size = countBelow 7 (switchedIn accepted size)
+switchesIn accepted size = countBelow replicasMax (switchedIn accepted size)
 
 unfoldable pub markIn : List ℕ → ℕ → ℕ
-markIn marks c = pick (eqb c 0) 0 (pick (ltb 64 c) 0 (getD marks (c - 1) 0))
+markIn marks c = pick (eqb c 0) 0 (pick (ltb requestsMax c) 0 (getD marks (c - 1) 0))

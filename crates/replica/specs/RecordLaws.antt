@@ -7,6 +7,7 @@ use native.Mathlib.Omega.{arith}
 use lib.ListN.{length, take, replicate}
 use lib.Dec.{eqb}
 use borrow.Author.Tests.{le-ltb, le-leb, lt-leb, ne-eqb, eqb-true, eqb-false}
+use Rattle.terms.specs.Limits.{replicasMax, names, requestsMax}
 use Rattle.terms.specs.Lists.{pick, leastOver, countBelow}
 use Rattle.terms.specs.ListLaws.{split, no-way, length-snoc}
 use Rattle.terms.specs.Kit.{Kit, marksActive}
@@ -26,25 +27,25 @@ use Rattle.replica.specs.RecordLayout.{layReplica}
 
 pub fresh-laid : (t : Bool) → layReplica (Rules.freshReplica t) ≡ freshRecord t
 unfolding layReplica Rules.freshReplica freshRecord
-fresh-laid t = rw (pad-nil 64, grid-constant {A = ℕ} 0)
+fresh-laid t = rw (pad-nil requestsMax, grid-constant {A = ℕ} 0)
 
 module _ (p : Rules.Replica) where
-  pub note-laid : (q : ℕ) → length (p .noted) < 64 → noteOn (layReplica p) q ≡ layReplica (Rules.note p q)
+  pub note-laid : (q : ℕ) → length (p .noted) < requestsMax → noteOn (layReplica p) q ≡ layReplica (Rules.note p q)
   unfolding layReplica noteOn Rules.note
   note-laid q room =
       let grown : length (p .noted) + 1 ≡ length (p .noted ++ (q ∷ [])) = omega (arith, length-snoc (p .noted) q) in
-      rw (lt-leb 64 (length (p .noted)) room, set-pad 64 (p .noted) q room, grown)
+      rw (lt-leb requestsMax (length (p .noted)) room, set-pad requestsMax (p .noted) q room, grown)
 
-  pub note-pair-laid : (q m : ℕ) → length (p .noted) < 64 → length (p .pairMarks) < 64 → notePairOn (layReplica p) q m ≡ layReplica (Rules.notePair p q m)
+  pub note-pair-laid : (q m : ℕ) → length (p .noted) < requestsMax → length (p .pairMarks) < requestsMax → notePairOn (layReplica p) q m ≡ layReplica (Rules.notePair p q m)
   unfolding layReplica notePairOn Rules.notePair
   note-pair-laid q m room more =
       let grown : length (p .noted) + 1 ≡ length (p .noted ++ (q ∷ [])) = omega (arith, length-snoc (p .noted) q) in
       let paired : length (p .pairMarks) + 1 ≡ length (p .pairMarks ++ (m ∷ [])) = omega (arith, length-snoc (p .pairMarks) m) in
-      rw (lt-leb 64 (length (p .noted)) room, lt-leb 64 (length (p .pairMarks)) more, set-pad 64 (p .noted) q room, set-pad 64 (p .pairMarks) m more, grown, paired)
+      rw (lt-leb requestsMax (length (p .noted)) room, lt-leb requestsMax (length (p .pairMarks)) more, set-pad requestsMax (p .noted) q room, set-pad requestsMax (p .pairMarks) m more, grown, paired)
 
-  pub accept-laid : (s m v : ℕ) → s < 7 → m < 3 → acceptOn (layReplica p) s m v ≡ layReplica (Rules.accept p s m v)
+  pub accept-laid : (s m v : ℕ) → s < replicasMax → m < names → acceptOn (layReplica p) s m v ≡ layReplica (Rules.accept p s m v)
   unfolding layReplica acceptOn Rules.accept
-  accept-laid s m v hs hm = rw (lt-leb 7 s hs, lt-leb 3 m hm, set-grid (p .accepted) s m v hm)
+  accept-laid s m v hs hm = rw (lt-leb replicasMax s hs, lt-leb names m hm, set-grid (p .accepted) s m v hm)
 
   pub mark-laid : (m : ℕ) → markOn (layReplica p) m ≡ layReplica (Rules.withMark p m)
   unfolding layReplica markOn Rules.withMark
@@ -73,22 +74,22 @@ module _ (p : Rules.Replica) where
 
   pub noted-laid : take (layReplica p .count) (layReplica p .noted) ≡ p .noted
   unfolding layReplica
-  noted-laid = take-pad 64 (p .noted)
+  noted-laid = take-pad requestsMax (p .noted)
 
-  pub accepted-laid : (s m : ℕ) → s < 7 → m < 3 → acceptedIn (layReplica p .accepted) s m ≡ p .accepted s m
+  pub accepted-laid : (s m : ℕ) → s < replicasMax → m < names → acceptedIn (layReplica p .accepted) s m ≡ p .accepted s m
   unfolding layReplica acceptedIn
-  accepted-laid s m hs hm = rw (lt-leb 7 s hs, lt-leb 3 m hm) (getD-grid (p .accepted) s m 0 hs hm)
+  accepted-laid s m hs hm = rw (lt-leb replicasMax s hs, lt-leb names m hm) (getD-grid (p .accepted) s m 0 hs hm)
 
-pub mark-in-laid : (l : List ℕ) (c : ℕ) → c ≤ 64 → markIn (pad 64 l) c ≡ markOfPair l c
+pub mark-in-laid : (l : List ℕ) (c : ℕ) → c ≤ requestsMax → markIn (pad requestsMax l) c ≡ markOfPair l c
 unfolding markIn
 mark-in-laid l zero h = refl
 mark-in-laid l (suc c) h =
     let before : suc c - 1 ≡ c = omega arith in
-    rw (ne-eqb (suc c) 0 (λ e. omega arith), le-ltb 64 (suc c) h, before) (getD-pad 64 l c)
+    rw (ne-eqb (suc c) 0 (λ e. omega arith), le-ltb requestsMax (suc c) h, before) (getD-pad requestsMax l c)
 
-pub active-laid : (kit : Kit) (x : ℕ) → activeIn (pad 7 (kit .table)) x ≡ isActive kit x
+pub active-laid : (kit : Kit) (x : ℕ) → activeIn (pad replicasMax (kit .table)) x ≡ isActive kit x
 unfolding activeIn isActive
-active-laid kit x = rw (getD-pad 7 (kit .table) x)
+active-laid kit x = rw (getD-pad replicasMax (kit .table) x)
 
 -- ---- settled counts: the padding marks no replica active
 
@@ -100,9 +101,9 @@ actives-then-zeros : (n : ℕ) (l : List ℕ) (x : ℕ) → activesFrom (l ++ re
 actives-then-zeros n [] x = zeros-passive n x
 actives-then-zeros n (k ∷ l) x = rw (actives-then-zeros n l (suc x))
 
-pub actives-laid : (l : List ℕ) → activesFrom (pad 7 l) 0 ≡ activesFrom l 0
+pub actives-laid : (l : List ℕ) → activesFrom (pad replicasMax l) 0 ≡ activesFrom l 0
 unfolding pad
-actives-laid l = actives-then-zeros (7 - length l) l 0
+actives-laid l = actives-then-zeros (replicasMax - length l) l 0
 
 -- only what is seen of the table's replicas counts
 least-ext : (l : List ℕ) (x : ℕ) (g h : ℕ → ℕ) (d : ℕ) → ((y : ℕ) → y < x + length l → g y ≡ h y) → leastOver (activesFrom l x) g d ≡ leastOver (activesFrom l x) h d
@@ -123,14 +124,14 @@ count-ext : (n : ℕ) (s t : ℕ → Bool) → ((y : ℕ) → y < n → s y ≡ 
 count-ext zero s t e = refl
 count-ext (suc n) s t e = rw (e n (omega arith), count-ext n s t (λ y h. e y (omega arith)))
 
-module _ (kit : Kit) (p : Rules.Replica) (small : length (kit .table) ≤ 7) where
-  least-laid : (x own : ℕ) → leastSeen (pad 7 (kit .table)) (layReplica p .accepted) (isActive kit x) x own (pick (isActive kit x) own (p .accepted (kit .leader) up)) ≡ settledCount kit x p own
+module _ (kit : Kit) (p : Rules.Replica) (small : length (kit .table) ≤ replicasMax) where
+  least-laid : (x own : ℕ) → leastSeen (pad replicasMax (kit .table)) (layReplica p .accepted) (isActive kit x) x own (pick (isActive kit x) own (p .accepted (kit .leader) up)) ≡ settledCount kit x p own
   unfolding leastSeen settledCount actives
   least-laid x own =
       rw (actives-laid (kit .table))
       (least-ext (kit .table) 0 _ _ _ (λ y b. rw (accepted-laid p y 0 (omega arith) (omega arith), accepted-laid p y 1 (omega arith) (omega arith))))
 
-  pub settled-laid : (x own : ℕ) → kit .leader < 7 → settledIn (layReplica p .accepted) (pad 7 (kit .table)) (kit .leader) x own ≡ settledCount kit x p own
+  pub settled-laid : (x own : ℕ) → kit .leader < replicasMax → settledIn (layReplica p .accepted) (pad replicasMax (kit .table)) (kit .leader) x own ≡ settledCount kit x p own
   unfolding settledIn
   settled-laid x own below = rw (active-laid kit x, accepted-laid p (kit .leader) up below (omega arith)) (least-laid x own)
 
@@ -138,5 +139,5 @@ module _ (kit : Kit) (p : Rules.Replica) (small : length (kit .table) ≤ 7) whe
   unfolding switchesIn switchedIn switches
   switches-laid =
       let n = length (kit .table) in
-      count-past 7 n (switchedIn (layReplica p .accepted) n) small (λ y h. rw (le-leb n y h))
+      count-past replicasMax n (switchedIn (layReplica p .accepted) n) small (λ y h. rw (le-leb n y h))
       ∙ count-ext n _ _ (λ y h. rw (lt-leb n y h, accepted-laid p y sw (omega arith) (omega arith)))

@@ -1,34 +1,46 @@
 // A replica's record: a fixed-size value, with the steps that change it. Each step gives the record anew; a step that has no room leaves
 // it as it is.
 ghost use mathlib.Core.Path.{_≡_};
-ghost use lib.ListN.{take};
 ghost use Prim.Native.Nat.{_+_, _<_};
-ghost use Rattle.terms.specs.Lists.{pick, holds};
-ghost use Rattle.terms.specs.Kit.{marksActive};
+ghost use Rattle.terms.specs.Lists.{pick};
 ghost use Rattle.replica.specs.Record.{freshRecord, noteOn, notePairOn, acceptOn, acceptedIn, markOn, haltOn, holdOn, closeOn, activeIn, lesserOf, leastSeen, settledIn, switchedIn, switchesIn, markIn};
+use terms::AG;
+use terms::Accepted;
+use terms::COUNTERS;
 use terms::Condition;
+use terms::Marks;
+use terms::NAMES;
+use terms::REPLICAS;
+use terms::REQUESTS;
+use terms::Requests;
+use terms::SW;
+use terms::Table;
+use terms::UP;
 
 // What a replica keeps. `noted` has `count` requests, `marks` the marks of `pairs` pairs, `accepted` the last accepted value of each
 // sender's three counters; `held` is the history's number where `holding`. Whatever is not in use is 0.
 pub struct Replica {
     pub condition: Condition,
-    pub noted: [u32; 64],
+    pub noted: Requests,
     pub count: usize,
-    pub marks: [u32; 64],
+    pub marks: Marks,
     pub pairs: usize,
     pub mark: u32,
-    pub accepted: [u32; 21],
+    pub accepted: Accepted,
     pub holding: bool,
     pub held: u32,
 }
 
+// The replicas of a room, as many as a kit can have.
+pub type Replicas = [Replica; REPLICAS];
+
 impl Replica {
     // Requests that a replica can note.
-    pub const NOTED_MAX: usize = 64;
+    pub const NOTED_MAX: usize = REQUESTS;
     // Replicas that can send to it.
-    pub const SENDERS_MAX: usize = 7;
+    pub const SENDERS_MAX: usize = REPLICAS;
     // Names of counters.
-    pub const NAMES_MAX: usize = 3;
+    pub const NAMES_MAX: usize = NAMES;
 
     // A replica before the first event.
     pub fn fresh(faulty: bool) -> Replica
@@ -37,12 +49,12 @@ impl Replica {
         let condition = first_condition(faulty);
         Replica {
             condition,
-            noted: [0; 64],
+            noted: [0; REQUESTS],
             count: 0,
-            marks: [0; 64],
+            marks: [0; REQUESTS],
             pairs: 0,
             mark: 0,
-            accepted: [0; 21],
+            accepted: [0; COUNTERS],
             holding: false,
             held: 0,
         }
@@ -90,7 +102,7 @@ impl Replica {
         if Replica::NAMES_MAX <= name {
             return self;
         }
-        self.accepted[3 * sender + name] = value;
+        self.accepted[Replica::NAMES_MAX * sender + name] = value;
         self
     }
 
@@ -170,67 +182,32 @@ fn first_condition(faulty: bool) -> Condition
     Condition::Running
 }
 
-// A number as an index.
-fn wide(x: u32) -> usize
-    ensures { λ r. ⌜ r ≡ x ⌝ }
-{
-    x as usize
-}
-
-// Whether a table's number marks an active replica.
-pub fn is_active(n: u32) -> bool
-    ensures { λ r. ⌜ r ≡ marksActive n ⌝ }
-{
-    if n == 1 {
-        return true;
-    }
-    n == 3
-}
-
 // Whether the table marks replica x as active.
-pub fn is_active_at(table: &[u32; 7], x: usize) -> bool
+pub fn is_active_at(table: &Table, x: usize) -> bool
     ensures { λ r. ⌜ r ≡ activeIn (now (table .entry)) x ⌝ }
 {
     let entries: &[u32] = table;
     if entries.len() <= x {
         return false;
     }
-    is_active(entries[x])
-}
-
-// Whether the first n of a list hold a request. The newest is looked at first: a repeated request is nearly always a client's second try.
-pub fn holds(list: &[u32; 64], n: usize, request: u32) -> bool
-    ensures { λ r. ⌜ r ≡ holds request (take n (now (list .entry))) ⌝ }
-{
-    let all: &[u32] = list;
-    let mut i = all.len();
-    if n < i {
-        i = n;
-    }
-    while 0 < i {
-        i = i - 1;
-        if all[i] == request {
-            return true;
-        }
-    }
-    false
+    terms::marks_active(entries[x])
 }
 
 // The last accepted value of a sender's counter; 0 of one that is not there.
-pub fn accepted_of(accepted: &[u32; 21], sender: usize, name: usize) -> u32
+pub fn accepted_of(accepted: &Accepted, sender: usize, name: usize) -> u32
     ensures { λ r. ⌜ r ≡ acceptedIn (now (accepted .entry)) sender name ⌝ }
 {
-    if 7 <= sender {
+    if REPLICAS <= sender {
         return 0;
     }
-    if 3 <= name {
+    if NAMES <= name {
         return 0;
     }
-    accepted[3 * sender + name]
+    accepted[NAMES * sender + name]
 }
 
 // The lesser of the count so far and what is seen of one more active replica y.
-fn lesser(active: bool, accepted: &[u32; 21], me: usize, own: usize, y: usize, c: usize) -> usize
+fn lesser(active: bool, accepted: &Accepted, me: usize, own: usize, y: usize, c: usize) -> usize
     ensures { λ r. ⌜ r ≡ lesserOf active (now (accepted .entry)) me own y c ⌝ }
 {
     if active {
@@ -240,13 +217,13 @@ fn lesser(active: bool, accepted: &[u32; 21], me: usize, own: usize, y: usize, c
             }
             return c;
         }
-        let a = wide(accepted_of(accepted, y, 0));
+        let a = terms::index(accepted_of(accepted, y, AG));
         if a < c {
             return a;
         }
         return c;
     }
-    let b = wide(accepted_of(accepted, y, 1));
+    let b = terms::index(accepted_of(accepted, y, UP));
     if b < c {
         return b;
     }
@@ -255,8 +232,8 @@ fn lesser(active: bool, accepted: &[u32; 21], me: usize, own: usize, y: usize, c
 
 // The least, over all active replicas and of `first`, of what replica `me` has seen of them; `own` is its own ag total.
 fn least_seen(
-    table: &[u32; 7],
-    accepted: &[u32; 21],
+    table: &Table,
+    accepted: &Accepted,
     active: bool,
     me: usize,
     own: usize,
@@ -268,7 +245,7 @@ fn least_seen(
     let mut c = first;
     let mut y: usize = 0;
     while y < entries.len() {
-        if is_active(entries[y]) {
+        if terms::marks_active(entries[y]) {
             c = lesser(active, accepted, me, own, y, c);
             y = y + 1;
         } else {
@@ -280,8 +257,8 @@ fn least_seen(
 
 // The settled count of replica `me` with these accepted values and `own` values on ag.
 pub fn settled_count(
-    accepted: &[u32; 21],
-    table: &[u32; 7],
+    accepted: &Accepted,
+    table: &Table,
     leader: usize,
     me: usize,
     own: usize,
@@ -291,7 +268,7 @@ pub fn settled_count(
     if is_active_at(table, me) {
         return least_seen(table, accepted, true, me, own, own);
     }
-    let first = wide(accepted_of(accepted, leader, 1));
+    let first = terms::index(accepted_of(accepted, leader, UP));
     least_seen(table, accepted, false, me, own, first)
 }
 
@@ -307,22 +284,22 @@ fn counted(is: bool, n: u32) -> u32
 }
 
 // Whether a SWITCH of replica y, one of the first `size`, was accepted.
-fn switched(accepted: &[u32; 21], size: usize, y: usize) -> bool
+fn switched(accepted: &Accepted, size: usize, y: usize) -> bool
     ensures { λ r. ⌜ r ≡ switchedIn (now (accepted .entry)) size y ⌝ }
 {
     if size <= y {
         return false;
     }
-    1 <= accepted_of(accepted, y, 2)
+    1 <= accepted_of(accepted, y, SW)
 }
 
 // Of how many of the first `size` replicas a SWITCH was accepted.
-pub fn switches(accepted: &[u32; 21], size: usize) -> u32
+pub fn switches(accepted: &Accepted, size: usize) -> u32
     ensures { λ r. ⌜ r ≡ switchesIn (now (accepted .entry)) size ⌝ }
 {
     let mut n: u32 = 0;
     let mut y: usize = 0;
-    while y < 7 {
+    while y < REPLICAS {
         n = counted(switched(accepted, size, y), n);
         y = y + 1;
     }
@@ -330,13 +307,13 @@ pub fn switches(accepted: &[u32; 21], size: usize) -> u32
 }
 
 // The mark of the last of c pairs, 0 before the first.
-pub fn mark_of_pair(marks: &[u32; 64], c: usize) -> u32
+pub fn mark_of_pair(marks: &Marks, c: usize) -> u32
     ensures { λ r. ⌜ r ≡ markIn (now (marks .entry)) c ⌝ }
 {
     if c == 0 {
         return 0;
     }
-    if 64 < c {
+    if REQUESTS < c {
         return 0;
     }
     marks[c - 1]

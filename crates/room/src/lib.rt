@@ -4,6 +4,8 @@ ghost use Rattle.room.specs.Desk.{freshDesk, countedOn};
 use terms::Answer;
 use terms::Condition;
 use terms::Content;
+use terms::HISTORIES;
+use terms::REQUESTS;
 
 pub mod settled;
 
@@ -68,9 +70,9 @@ pub enum Decision {
 
 impl Desk {
     // Requests that can be submitted.
-    pub const REQUESTS_MAX: usize = 64;
+    pub const REQUESTS_MAX: usize = REQUESTS;
     // Histories that can be filed.
-    pub const HISTORIES_MAX: usize = 8;
+    pub const HISTORIES_MAX: usize = HISTORIES;
 
     // Before the first event.
     pub fn fresh() -> Desk

@@ -1,4 +1,5 @@
 pub mod Limits
+pub mod Lent
 pub mod Mark
 pub mod MarkLaws
 pub mod Numbers

@@ -11,6 +11,7 @@ use lib.ListN.{length, getD, set, replicate, length-set}
 use lib.Seq.{ext-getD, getD-set-same, getD-set-other}
 use lib.Dec.{eqb}
 use borrow.Author.Tests.{eqb-true, eqb-false, eq-eqb, ne-eqb}
+use Rattle.terms.specs.Limits.{replicasMax, names, counters}
 use Rattle.terms.specs.Lists.{pick}
 use Rattle.terms.specs.ListLaws.{split}
 
@@ -53,42 +54,42 @@ module _ {ℓ} {A : Type ℓ} where
   tab-constant zero a = refl
   tab-constant (suc n) a = ap (λ (l : List A). a ∷ l) (tab-constant n a)
 
-  -- replica x's counter of name m stands at 3 * x + m
+  -- replica x's counter of name m stands at names * x + m
   unfoldable pub grid : (ℕ → ℕ → A) → List A
-  grid g = tab 21 (λ i. g (i / 3) (i % 3))
+  grid g = tab counters (λ i. g (i / names) (i % names))
 
-  pub getD-grid : (g : ℕ → ℕ → A) (x m : ℕ) (d : A) → x < 7 → m < 3 → getD (grid g) (3 * x + m) d ≡ g x m
+  pub getD-grid : (g : ℕ → ℕ → A) (x m : ℕ) (d : A) → x < replicasMax → m < names → getD (grid g) (names * x + m) d ≡ g x m
   unfolding grid
   getD-grid g x m d hx hm =
-      let q : (3 * x + m) / 3 ≡ x = omega arith in
-      let r : (3 * x + m) % 3 ≡ m = omega arith in
-      getD-tab 21 (λ i. g (i / 3) (i % 3)) (3 * x + m) d (omega arith) ∙ rw (q, r)
+      let q : (names * x + m) / names ≡ x = omega arith in
+      let r : (names * x + m) % names ≡ m = omega arith in
+      getD-tab counters (λ i. g (i / names) (i % names)) (names * x + m) d (omega arith) ∙ rw (q, r)
 
-  pub set-grid : (g : ℕ → ℕ → A) (x m : ℕ) (v : A) → m < 3 → set (grid g) (3 * x + m) v ≡ grid (λ y n. pick (eqb n m && eqb y x) v (g y n))
+  pub set-grid : (g : ℕ → ℕ → A) (x m : ℕ) (v : A) → m < names → set (grid g) (names * x + m) v ≡ grid (λ y n. pick (eqb n m && eqb y x) v (g y n))
   unfolding grid
   set-grid g x m v hm =
-      set-tab 21 (λ i. g (i / 3) (i % 3)) (3 * x + m) v
-      ∙ tab-ext 21 _ _ (λ i h. ap (λ (t : Bool). pick t v (g (i / 3) (i % 3))) (place-is i))
+      set-tab counters (λ i. g (i / names) (i % names)) (names * x + m) v
+      ∙ tab-ext counters _ _ (λ i h. ap (λ (t : Bool). pick t v (g (i / names) (i % names))) (place-is i))
     where
-      place-is : (i : ℕ) → eqb i (3 * x + m) ≡ (eqb (i % 3) m && eqb (i / 3) x)
+      place-is : (i : ℕ) → eqb i (names * x + m) ≡ (eqb (i % names) m && eqb (i / names) x)
       place-is i =
-          split (eqb i (3 * x + m))
-          (λ t. let e : i ≡ 3 * x + m = eqb-true i (3 * x + m) t in
-          let q : i / 3 ≡ x = omega arith in
-          let r : i % 3 ≡ m = omega arith in
-          rw (t, eq-eqb (i % 3) m r, eq-eqb (i / 3) x q))
-          (λ t. let e : i ≢ 3 * x + m = eqb-false i (3 * x + m) t in
-          split (eqb (i % 3) m)
-          (λ u. let r : i % 3 ≡ m = eqb-true (i % 3) m u in
-          rw (t, u, ne-eqb (i / 3) x (λ q. e (omega arith))))
+          split (eqb i (names * x + m))
+          (λ t. let e : i ≡ names * x + m = eqb-true i (names * x + m) t in
+          let q : i / names ≡ x = omega arith in
+          let r : i % names ≡ m = omega arith in
+          rw (t, eq-eqb (i % names) m r, eq-eqb (i / names) x q))
+          (λ t. let e : i ≢ names * x + m = eqb-false i (names * x + m) t in
+          split (eqb (i % names) m)
+          (λ u. let r : i % names ≡ m = eqb-true (i % names) m u in
+          rw (t, u, ne-eqb (i / names) x (λ q. e (omega arith))))
           (λ u. rw (t, u)))
 
-  pub grid-constant : (a : A) → grid (λ x m. a) ≡ replicate 21 a
+  pub grid-constant : (a : A) → grid (λ x m. a) ≡ replicate counters a
   unfolding grid
-  grid-constant a = tab-constant 21 a
+  grid-constant a = tab-constant counters a
 
 -- the same where every row is made of a value by h
-pub set-grid-of {ℓ ℓ′} : {A : Type ℓ} {B : Type ℓ′} (h : A → B) (g : ℕ → ℕ → A) (x m : ℕ) (v : A) → m < 3 → set (grid (λ y n. h (g y n))) (3 * x + m) (h v) ≡ grid (λ y n. h (pick (eqb n m && eqb y x) v (g y n)))
+pub set-grid-of {ℓ ℓ′} : {A : Type ℓ} {B : Type ℓ′} (h : A → B) (g : ℕ → ℕ → A) (x m : ℕ) (v : A) → m < names → set (grid (λ y n. h (g y n))) (names * x + m) (h v) ≡ grid (λ y n. h (pick (eqb n m && eqb y x) v (g y n)))
 set-grid-of h g x m v hm =
     set-grid (λ y n. h (g y n)) x m (h v) hm
     ∙ ap grid (fun-ext (λ y. fun-ext (λ n. split (eqb n m && eqb y x) (λ t. rw t) (λ t. rw t))))

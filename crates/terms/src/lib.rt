@@ -1,7 +1,62 @@
-// What all layers speak of: contents, conditions, events, and the numbers that are given back.
+// What all layers speak of: limits and the names of the counters, contents, conditions, events, and the numbers that are given back; the arrays
+// that are lent from one layer to the next; and small functions of numbers and lists.
 ghost use mathlib.Core.Path.{_≡_};
 ghost use Rattle.terms.specs.Numbers.{contentOf, contentNumbers, kindOf, kindNumber, kitNumberOf, answerNumber};
 ghost use Rattle.terms.specs.Mark.{nextMark};
+ghost use Prim.Native.Nat.{min};
+ghost use lib.ListN.{take};
+ghost use Rattle.terms.specs.Kit.{marksActive, marksFaulty};
+ghost use Rattle.terms.specs.Lists.{holds};
+
+// ---- limits, as specs/Limits.antt has them, and the names of the counters
+
+// The names of a replica's counters, and how many there are.
+pub const AG: usize = 0;
+
+pub const UP: usize = 1;
+
+pub const SW: usize = 2;
+
+pub const NAMES: usize = 3;
+// Replicas that a kit can have.
+pub const REPLICAS: usize = 7;
+// Their counters.
+pub const COUNTERS: usize = 21;
+// Places of one counter.
+pub const PLACES: usize = 96;
+// Requests that can be submitted, noted by one replica, or listed in one history.
+pub const REQUESTS: usize = 64;
+// Histories that can be filed, and how many of them by events 8.
+pub const HISTORIES: usize = 8;
+
+pub const FILED: usize = 7;
+// Events of a kit.
+pub const EVENTS: usize = 4096;
+
+// ---- the arrays that are lent; what is not in use is 0
+
+// One number a replica: 1 if it is active, plus 2 if it is faulty.
+pub type Table = [u32; REPLICAS];
+// Requests in order: those submitted, those that a replica has noted, those of a history.
+pub type Requests = [u32; REQUESTS];
+// The ticks of the submissions.
+pub type Ticks = [u64; REQUESTS];
+// The marks of a passive replica's pairs.
+pub type Marks = [u32; REQUESTS];
+// The last accepted value of each sender's counters.
+pub type Accepted = [u32; COUNTERS];
+// Of each history j, k and the length of its list; the lists.
+pub type Head = [usize; 3];
+
+pub type Heads = [Head; HISTORIES];
+
+pub type Lists = [Requests; HISTORIES];
+// The clock after each event, and the number that it was answered by.
+pub type Clocks = [u64; EVENTS];
+
+pub type Answers = [u32; EVENTS];
+
+// ---- words
 
 // What a certificate says. A content's kind, a and b are `numbers_of_content`.
 pub enum Content {
@@ -229,4 +284,75 @@ pub fn next_mark(mark: u32, request: u32) -> u32
 {
     let twice = std::num::wrapping_add_u32(mark, mark);
     std::num::wrapping_add_u32(twice, request)
+}
+
+// ---- small functions of numbers and lists
+
+// A number as an index.
+pub fn index(n: u32) -> usize
+    ensures { λ r. ⌜ r ≡ n ⌝ }
+{
+    n as usize
+}
+
+// A number of 32 bits as one of 64.
+pub fn wide(n: u32) -> u64
+    ensures { λ r. ⌜ r ≡ n ⌝ }
+{
+    n as u64
+}
+
+// A count as a number of 64 bits.
+pub fn long(n: usize) -> u64
+    ensures { λ r. ⌜ r ≡ n ⌝ }
+{
+    n as u64
+}
+
+// The lesser of two counts.
+pub fn lesser(a: usize, b: usize) -> usize
+    ensures { λ r. ⌜ r ≡ min a b ⌝ }
+{
+    if a < b {
+        return a;
+    }
+    b
+}
+
+// Whether a table's number marks an active replica.
+pub fn marks_active(n: u32) -> bool
+    ensures { λ r. ⌜ r ≡ marksActive n ⌝ }
+{
+    if n == 1 {
+        return true;
+    }
+    n == 3
+}
+
+// Whether a table's number marks a faulty replica.
+pub fn marks_faulty(n: u32) -> bool
+    ensures { λ r. ⌜ r ≡ marksFaulty n ⌝ }
+{
+    if n == 2 {
+        return true;
+    }
+    n == 3
+}
+
+// Whether the first n of a list hold a request. The newest is looked at first: a repeated request is nearly always a client's second try.
+pub fn holds(list: &Requests, n: usize, request: u32) -> bool
+    ensures { λ r. ⌜ r ≡ holds request (take n (now (list .entry))) ⌝ }
+{
+    let all: &[u32] = list;
+    let mut i = all.len();
+    if n < i {
+        i = n;
+    }
+    while 0 < i {
+        i = i - 1;
+        if all[i] == request {
+            return true;
+        }
+    }
+    false
 }

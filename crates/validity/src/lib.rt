@@ -1,92 +1,31 @@
 // Whether the counters bear a history out: what the hand asks before a history is held. Contents are compared with what was issued.
 ghost use mathlib.Core.Path.{_≡_};
 ghost use mathlib.Core.Bool.{true};
-ghost use mathlib.Core.Option.{some};
-ghost use Prim.Native.Nat.{suc, _≤_};
-ghost use lib.Dec.{eqb};
+ghost use Prim.Native.Nat.{_≤_};
 ghost use lib.ListN.{length, take};
+ghost use Rattle.terms.specs.Limits.{requestsMax};
 ghost use Rattle.terms.specs.Lists.{pick, allBelow, allOf};
 ghost use Rattle.terms.specs.Kit.{marksActive};
-ghost use Rattle.rules.specs.Reading.{sameContent, isContent, firstOf, secondOf};
 ghost use Rattle.rules.specs.Table.{activesFrom};
-ghost use Rattle.validity.specs.Validity.{contentOn, isCommittedAt, isCommittedOn, isCommonTo, isSettledAt, isSettledOn, isListed, isBorneOut, isFiledAt, isValidOn};
+ghost use Rattle.validity.specs.Validity.{isCommittedAt, isCommittedOn, isCommonTo, isSettledAt, isSettledOn, isListed, isBorneOut, isFiledAt, isValidOn};
 use ledger::Issued;
 use ledger::Ledger;
+use terms::AG;
 use terms::Content;
-use terms::ContentChoice;
-
-// A number as an index.
-fn wide(x: u32) -> usize
-    ensures { λ r. ⌜ r ≡ x ⌝ }
-{
-    x as usize
-}
+use terms::HISTORIES;
+use terms::Heads;
+use terms::Lists;
+use terms::REQUESTS;
+use terms::Requests;
+use terms::Table;
+use terms::UP;
 
 // A place of a list, counted from 1, as a counter's value.
 fn narrow(x: usize) -> u32
-    requires { ⌜ x ≤ 64 ⌝ }
+    requires { ⌜ x ≤ requestsMax ⌝ }
     ensures { λ r. ⌜ r ≡ x ⌝ }
 {
     x as u32
-}
-
-// Whether a value is the one after the last.
-pub fn is_next(value: u32, last: usize) -> bool
-    ensures { λ r. ⌜ r ≡ eqb value (suc last) ⌝ }
-{
-    if value == 0 {
-        return false;
-    }
-    wide(value - 1) == last
-}
-
-// What a content speaks of: its a.
-pub fn first_of(content: Content) -> u32
-    ensures { λ r. ⌜ r ≡ firstOf (some content) ⌝ }
-{
-    let numbers = terms::numbers_of_content(content);
-    numbers[1]
-}
-
-// What a content names beside: its b, 0 where it has none.
-pub fn second_of(content: Content) -> u32
-    ensures { λ r. ⌜ r ≡ secondOf (some content) ⌝ }
-{
-    let numbers = terms::numbers_of_content(content);
-    numbers[2]
-}
-
-// Whether two contents are the same: they are if their numbers are.
-pub fn is_same(one: Content, other: Content) -> bool
-    ensures { λ r. ⌜ r ≡ sameContent one other ⌝ }
-{
-    let a = terms::numbers_of_content(one);
-    let b = terms::numbers_of_content(other);
-    if a[0] != b[0] {
-        return false;
-    }
-    if a[1] != b[1] {
-        return false;
-    }
-    a[2] == b[2]
-}
-
-// Whether a counter's value is bound to this content.
-fn is_content(
-    ledger: &Ledger,
-    issued: &Issued,
-    replica: usize,
-    name: usize,
-    value: u32,
-    content: Content,
-) -> bool
-    ensures { λ r. ⌜ r ≡ isContent (contentOn (now (ledger .entry)) (now (issued .entry)) replica name value) content ⌝ }
-{
-    let found = ledger::look_up(ledger, issued, replica, name, value);
-    match found {
-        ContentChoice::Content(c) => is_same(c, content),
-        ContentChoice::Refused => false,
-    }
 }
 
 // The switch leader's ag value is COMMIT of that request and value, the leader's is PREPARE of it.
@@ -101,9 +40,9 @@ fn is_committed(
     ensures { λ r. ⌜ r ≡ isCommittedAt (now (ledger .entry)) (now (issued .entry)) leader switcher value request ⌝ }
 {
     let commit = Content::Commit(request, value);
-    if is_content(ledger, issued, switcher, 0, value, commit) {
+    if ledger::is_content(ledger, issued, switcher, AG, value, commit) {
         let prepare = Content::Prepare(request);
-        return is_content(ledger, issued, leader, 0, value, prepare);
+        return ledger::is_content(ledger, issued, leader, AG, value, prepare);
     }
     false
 }
@@ -117,7 +56,7 @@ fn are_committed(
     list: &[u32],
     k: usize,
 ) -> bool
-    requires { ⌜ k ≤ 64 ⌝ }
+    requires { ⌜ k ≤ requestsMax ⌝ }
     requires { ⌜ k ≤ length (now list) ⌝ }
     ensures { λ r. ⌜ r ≡ allBelow k (isCommittedOn (now (ledger .entry)) (now (issued .entry)) leader switcher (now (list .entry))) ⌝ }
 {
@@ -147,7 +86,7 @@ fn is_common(
 ) -> bool
     ensures { λ r. ⌜ r ≡ pick (marksActive number) (isCommonTo (now (ledger .entry)) (now (issued .entry)) leader switcher value request x) true ⌝ }
 {
-    if replica::is_active(number) {
+    if terms::marks_active(number) {
         if x == leader {
             return true;
         }
@@ -155,7 +94,7 @@ fn is_common(
             return true;
         }
         let commit = Content::Commit(request, value);
-        return is_content(ledger, issued, x, 0, value, commit);
+        return ledger::is_content(ledger, issued, x, AG, value, commit);
     }
     true
 }
@@ -164,7 +103,7 @@ fn is_common(
 fn are_common(
     ledger: &Ledger,
     issued: &Issued,
-    table: &[u32; 7],
+    table: &Table,
     leader: usize,
     switcher: usize,
     value: u32,
@@ -189,7 +128,7 @@ fn are_common(
 fn is_settled(
     ledger: &Ledger,
     issued: &Issued,
-    table: &[u32; 7],
+    table: &Table,
     leader: usize,
     switcher: usize,
     value: u32,
@@ -200,7 +139,7 @@ fn is_settled(
 {
     if are_common(ledger, issued, table, leader, switcher, value, request) {
         let update = Content::Update(request, mark);
-        return is_content(ledger, issued, switcher, 1, value, update);
+        return ledger::is_content(ledger, issued, switcher, UP, value, update);
     }
     false
 }
@@ -209,13 +148,13 @@ fn is_settled(
 fn are_settled(
     ledger: &Ledger,
     issued: &Issued,
-    table: &[u32; 7],
+    table: &Table,
     leader: usize,
     switcher: usize,
     list: &[u32],
     j: usize,
 ) -> bool
-    requires { ⌜ j ≤ 64 ⌝ }
+    requires { ⌜ j ≤ requestsMax ⌝ }
     requires { ⌜ j ≤ length (now list) ⌝ }
     ensures { λ r. ⌜ r ≡ allBelow j (isSettledOn (now (ledger .entry)) (now (issued .entry)) (now (table .entry)) leader switcher (now (list .entry))) ⌝ }
 {
@@ -244,7 +183,7 @@ fn are_settled(
 }
 
 // The whole list, its first n places, is submitted and without repeats.
-fn is_listed(requests: &[u32; 64], submitted: usize, list: &[u32; 64], n: usize) -> bool
+fn is_listed(requests: &Requests, submitted: usize, list: &Requests, n: usize) -> bool
     requires { ⌜ n ≤ length (now list) ⌝ }
     ensures { λ r. ⌜ r ≡ isListed (take submitted (now (requests .entry))) (take n (now (list .entry))) ⌝ }
 {
@@ -252,10 +191,10 @@ fn is_listed(requests: &[u32; 64], submitted: usize, list: &[u32; 64], n: usize)
     let mut i: usize = 0;
     while i < n {
         let request = entries[i];
-        if replica::holds(list, i, request) {
+        if terms::holds(list, i, request) {
             return false;
         }
-        if replica::holds(requests, submitted, request) {
+        if terms::holds(requests, submitted, request) {
             i = i + 1;
         } else {
             return false;
@@ -268,12 +207,12 @@ fn is_listed(requests: &[u32; 64], submitted: usize, list: &[u32; 64], n: usize)
 fn is_borne_out(
     ledger: &Ledger,
     issued: &Issued,
-    table: &[u32; 7],
+    table: &Table,
     leader: usize,
     switcher: usize,
-    requests: &[u32; 64],
+    requests: &Requests,
     submitted: usize,
-    list: &[u32; 64],
+    list: &Requests,
     n: usize,
     k: usize,
     j: usize,
@@ -281,7 +220,7 @@ fn is_borne_out(
     ensures { λ r. ⌜ r ≡ isBorneOut (now (ledger .entry)) (now (issued .entry)) (now (table .entry)) leader switcher (take submitted (now (requests .entry))) (now (list .entry)) n k j ⌝ }
 {
     let entries: &[u32] = list;
-    if 64 < n {
+    if REQUESTS < n {
         return false;
     }
     if entries.len() < n {
@@ -306,13 +245,13 @@ fn is_borne_out(
 fn is_filed(
     ledger: &Ledger,
     issued: &Issued,
-    table: &[u32; 7],
+    table: &Table,
     leader: usize,
     switcher: usize,
-    requests: &[u32; 64],
+    requests: &Requests,
     submitted: usize,
-    heads: &[[usize; 3]; 8],
-    lists: &[[u32; 64]; 8],
+    heads: &Heads,
+    lists: &Lists,
     histories: usize,
     h: usize,
     p: u32,
@@ -323,14 +262,14 @@ fn is_filed(
     if histories <= h {
         return false;
     }
-    if 8 <= h {
+    if HISTORIES <= h {
         return false;
     }
     let j = heads[h][0];
     let k = heads[h][1];
     let n = heads[h][2];
-    if is_next(p, k) {
-        if is_next(q, j) {
+    if ledger::is_next(p, k) {
+        if ledger::is_next(q, j) {
             return is_borne_out(
                 ledger,
                 issued,
@@ -355,13 +294,13 @@ fn is_filed(
 pub fn is_valid(
     ledger: &Ledger,
     issued: &Issued,
-    table: &[u32; 7],
+    table: &Table,
     leader: usize,
     switcher: usize,
-    requests: &[u32; 64],
+    requests: &Requests,
     submitted: usize,
-    heads: &[[usize; 3]; 8],
-    lists: &[[u32; 64]; 8],
+    heads: &Heads,
+    lists: &Lists,
     histories: usize,
     h: u32,
     p: u32,
@@ -370,9 +309,9 @@ pub fn is_valid(
     ensures { λ r. ⌜ r ≡ isValidOn (now (ledger .entry)) (now (issued .entry)) (now (table .entry)) leader switcher (take submitted (now (requests .entry))) (now (heads .entry)) (now (lists .entry)) histories h p q ⌝ }
 {
     let history = Content::History(h);
-    if is_content(ledger, issued, switcher, 0, p, history) {
-        if is_content(ledger, issued, switcher, 1, q, history) {
-            let at = wide(h);
+    if ledger::is_content(ledger, issued, switcher, AG, p, history) {
+        if ledger::is_content(ledger, issued, switcher, UP, q, history) {
+            let at = terms::index(h);
             return is_filed(
                 ledger,
                 issued,

@@ -14,7 +14,7 @@ enter-spec =
     (λ c. search needs) (λ c. search needs) (λ c. search needs) (λ c. search needs) (λ c. search needs) (λ c. search needs)
     (λ c. search needs) (λ c. search needs) (λ c. search needs)
     (λ c. rw (c .before .before .before .before .decision .given .1, ← c .store-request .ensures))
-    (λ c. rw (c .before .before .before .before .before .before .decision2 .given .1, ← c .before .before .before .before .wide .ensures, ← c .before .before .before .wide2 .ensures, ← c .file .ensures))
+    (λ c. rw (c .before .before .before .before .before .before .decision2 .given .1, ← c .before .before .before .before .index .ensures, ← c .before .before .before .index2 .ensures, ← c .file .ensures))
     (λ c. rw (c .before .before .before .before .before .before .before .before .before .decision3 .given .1, ← c .before .before .before .before .add-all-missing .ensures, ← c .file2 .ensures))
     (λ c. rw (c .enum-told .given .1))
     (λ c. rw (c .enum-told2 .given .1))

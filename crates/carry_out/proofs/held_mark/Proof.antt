@@ -11,7 +11,7 @@ held-mark-spec =
     tie.close
     (tie.spec
     (λ c κs. search needs)
-    (λ c. rw (← c .before .before .wide .ensures, c .before .if1 .taken, le-leb _ _ (c .if2 .taken)))
+    (λ c. rw (← c .before .before .index .ensures, c .before .if1 .taken, le-leb _ _ (c .if2 .taken)))
     (λ c. search needs) (λ c. search needs) (λ c. search needs) (λ c. search needs) (λ c. search needs) (λ c κs. search needs)
-    (λ c. rw (← c .before .before .before .before .before .wide .ensures, c .before .before .before .before .if1 .taken, lt-leb _ _ (c .before .before .before .if2 .left), ← c .mark-of .ensures))
-    (λ c. rw (← c .before .wide .ensures, c .if1 .left)))
+    (λ c. rw (← c .before .before .before .before .before .index .ensures, c .before .before .before .before .if1 .taken, lt-leb _ _ (c .before .before .before .if2 .left), ← c .mark-of .ensures))
+    (λ c. rw (← c .before .index .ensures, c .if1 .left)))

@@ -20,11 +20,15 @@ loop-holds c = record { rest = refl }
 pub answered-spec : {M : Type 1} → statement M
 answered-spec =
     tie.close
-    (tie.spec Inv-loop μ-loop loop-holds
-    (λ c κs. search needs) (λ c κs. search needs) (λ c κs. search needs)
-    (λ c. let positive = c .before .before .before .before .loop-test .taken in
-    sought (c .before .before .before .before .before .loop .inv) positive (rw (at-value _ _ _ _ _ _ positive, ← c .before .before .before .look-up .ensures, ← c .before .before .second-of .ensures, ← c .before .updated .ensures) (c .if1 .taken)))
+    (tie.spec Inv-loop μ-loop (λ c. search needs) loop-holds
+    (λ c κs. search needs) (λ c κs. search needs)
+    (λ c. let in-loop = c .before .before .before in
+    let positive = in-loop .loop-test .taken in
+    sought (in-loop .before .loop .inv) positive
+    (rw (at-value _ _ _ _ _ _ positive, ← c .before .before .second-at .ensures, ← c .before .updated .ensures) (c .if1 .taken)))
     (λ c. search needs) (λ c. search needs)
-    (λ c. let positive = c .before .before .before .before .loop-test .taken in
-    next-down (c .before .before .before .before .before .loop .inv) positive (rw (at-value _ _ _ _ _ _ positive, ← c .before .before .before .look-up .ensures, ← c .before .before .second-of .ensures, ← c .before .updated .ensures) (c .if1 .left)))
+    (λ c. let in-loop = c .before .before .before in
+    let positive = in-loop .loop-test .taken in
+    next-down (in-loop .before .loop .inv) positive
+    (rw (at-value _ _ _ _ _ _ positive, ← c .before .before .second-at .ensures, ← c .before .updated .ensures) (c .if1 .left)))
     (λ c. none-left (c .before .loop .inv) (c .loop-test .left)))

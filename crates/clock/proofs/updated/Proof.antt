@@ -20,9 +20,15 @@ updated-spec =
     tie.close
     (tie.spec Inv-loop μ-loop
     (λ c. record { rest = refl })
-    (λ c. search needs) (λ c. search needs) (λ c κs. search needs) (λ c κs. search needs) (λ c κs. search needs) (λ c. search needs) (λ c. search needs)
-    (λ c. next-active (c .before .before .before .before .before .before .before .loop .inv) (c .before .before .before .before .before .before .loop-test .taken) (sym (c .before .before .before .before .is-active .ensures) ∙ c .before .before .before .if1 .taken) (rw (← c .before .before .look-up .ensures, ← c .before .is-update .ensures) (c .if2 .taken)))
-    (λ c. fails (c .before .before .before .before .before .before .before .loop .inv) (c .before .before .before .before .before .before .loop-test .taken) (sym (c .before .before .before .before .is-active .ensures) ∙ c .before .before .before .if1 .taken) (rw (← c .before .before .look-up .ensures, ← c .before .is-update .ensures) (c .if2 .left)))
+    (λ c. search needs) (λ c. search needs) (λ c κs. search needs) (λ c κs. search needs) (λ c. search needs) (λ c. search needs)
+    (λ c. let at-y = c .before .before .before .before in
+    let looked = c .before .before .before in
+    next-active (at-y .before .before .loop .inv) (at-y .before .loop-test .taken) (sym (looked .marks-active .ensures) ∙ c .before .before .if1 .taken)
+    (sym (c .before .is-content .ensures) ∙ c .if2 .taken))
+    (λ c. let at-y = c .before .before .before .before in
+    let looked = c .before .before .before in
+    fails (at-y .before .before .loop .inv) (at-y .before .loop-test .taken) (sym (looked .marks-active .ensures) ∙ c .before .before .if1 .taken)
+    (sym (c .before .is-content .ensures) ∙ c .if2 .left))
     (λ c. search needs) (λ c. search needs)
-    (λ c. next-passive (c .before .before .before .before .loop .inv) (c .before .before .before .loop-test .taken) (sym (c .before .is-active .ensures) ∙ c .if1 .left))
+    (λ c. next-passive (c .before .before .before .before .loop .inv) (c .before .before .before .loop-test .taken) (sym (c .before .marks-active .ensures) ∙ c .if1 .left))
     (λ c. all-pass (c .before .loop .inv) (c .loop-test .left)))

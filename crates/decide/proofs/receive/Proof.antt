@@ -19,5 +19,5 @@ receive-spec =
     (λ c κs. search needs)
     (λ c κs. search needs)
     (λ c κs. search needs)
-    (λ c. rw (← c .before .before .before .before .before .before .before .before .before .before .is-too-late .ensures, c .before .before .before .before .before .before .before .before .before .if1 .left, ← c .before .before .before .before .before .before .before .before .is-too-early .ensures, c .before .before .before .before .before .before .before .if2 .left, ← c .before .before .before .before .before .before .has-wrong-roles .ensures, c .before .before .before .before .before .if3 .left, ← c .before .before .before .before .accepted-of .ensures, ← c .before .before .before .wide .ensures, ← c .before .before .is-next .ensures, c .before .if4 .taken, ← c .on-content .ensures))
-    (λ c. rw (← c .before .before .before .before .before .before .before .before .before .is-too-late .ensures, c .before .before .before .before .before .before .before .before .if1 .left, ← c .before .before .before .before .before .before .before .is-too-early .ensures, c .before .before .before .before .before .before .if2 .left, ← c .before .before .before .before .before .has-wrong-roles .ensures, c .before .before .before .before .if3 .left, ← c .before .before .before .accepted-of .ensures, ← c .before .before .wide .ensures, ← c .before .is-next .ensures, c .if4 .left)))
+    (λ c. rw (← c .before .before .before .before .before .before .before .before .before .before .is-too-late .ensures, c .before .before .before .before .before .before .before .before .before .if1 .left, ← c .before .before .before .before .before .before .before .before .is-too-early .ensures, c .before .before .before .before .before .before .before .if2 .left, ← c .before .before .before .before .before .before .has-wrong-roles .ensures, c .before .before .before .before .before .if3 .left, ← c .before .before .before .before .accepted-of .ensures, ← c .before .before .before .index .ensures, ← c .before .before .is-next .ensures, c .before .if4 .taken, ← c .on-content .ensures))
+    (λ c. rw (← c .before .before .before .before .before .before .before .before .before .is-too-late .ensures, c .before .before .before .before .before .before .before .before .if1 .left, ← c .before .before .before .before .before .before .before .is-too-early .ensures, c .before .before .before .before .before .before .if2 .left, ← c .before .before .before .before .before .has-wrong-roles .ensures, c .before .before .before .before .if3 .left, ← c .before .before .before .accepted-of .ensures, ← c .before .before .index .ensures, ← c .before .is-next .ensures, c .if4 .left)))

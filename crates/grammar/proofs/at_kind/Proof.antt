@@ -12,4 +12,7 @@ at-kind-spec =
     (tie.spec
     (λ c κs. search needs) (λ c. search needs) (λ c κs. search needs) (λ c. search needs) (λ c κs. search needs) (λ c κs. search needs)
     (λ c. c .refused .ensures ∙ rw (← c .before .before .before .kind-of .ensures, c .before .enum-told .given .1))
-    (λ c. c .operand-goes .ensures ∙ rw (c .before .begin .ensures) (rw (← c .before .before .before .before .before .kind-of .ensures, c .before .before .before .kind .given .1))))
+    (λ c.
+    let found = c .before .before .before in
+    let asked = found .before .before in
+    c .operand-goes .ensures ∙ rw (c .before .begin .ensures) (rw (← asked .kind-of .ensures, found .kind .given .1))))

@@ -13,8 +13,28 @@ at-operand-spec =
     tie.close
     (tie.spec
     (λ c κs. search needs) (λ c κs. search needs)
-    (λ c. c .refused .ensures ∙ rw (← c .before .before .operand-count .ensures) (simp (le-ltb (c .before .before .before .args .s .at) (c .before .before .operand-count .result) (omega arith))))
+    (λ c.
+    let counted = c .before .before in
+    let n = counted .operand-count in
+    c .refused .ensures ∙ rw (← n .ensures) (simp (le-ltb (counted .before .args .s .at) (n .result) (omega arith))))
     (λ c κs. search needs) (λ c κs. search needs) (λ c κs. search needs)
-    (λ c. let n = c .before .before .before .before .before .operand-count in c .refused2 .ensures ∙ rw (← n .ensures, ← c .before .before .before .operand-of .ensures, ← c .before .before .operand-fits .ensures) (simp (lt-ltb (c .before .before .before .before .before .before .args .s .at) (n .result) (omega arith), not-true (c .before .before .operand-fits .result) (c .before .if2 .taken))))
+    (λ c.
+    let tested = c .before .before in
+    let found = tested .before in
+    let counted = found .before .before in
+    let n = counted .operand-count in
+    let t = tested .operand-fits in
+    c .refused2 .ensures
+    ∙ rw (← n .ensures, ← found .operand-of .ensures, ← t .ensures)
+    (simp (lt-ltb (counted .before .args .s .at) (n .result) (omega arith), not-true (t .result) (c .before .if2 .taken))))
     (λ c κs. search needs) (λ c κs. search needs)
-    (λ c. let n = c .before .before .before .before .before .before .operand-count in let t = c .before .before .before .operand-fits in c .operand-goes .ensures ∙ rw (c .before .keep .ensures) (rw (← n .ensures, ← c .before .before .before .before .operand-of .ensures, ← t .ensures) (rw (lt-ltb (c .before .before .before .before .before .before .before .args .s .at) (n .result) (omega arith), not-false (t .result) (c .before .before .if2 .left))))))
+    (λ c.
+    let tested = c .before .before .before in
+    let found = tested .before in
+    let counted = found .before .before in
+    let n = counted .operand-count in
+    let t = tested .operand-fits in
+    c .operand-goes .ensures
+    ∙ rw (c .before .keep .ensures)
+    (rw (← n .ensures, ← found .operand-of .ensures, ← t .ensures)
+    (rw (lt-ltb (counted .before .args .s .at) (n .result) (omega arith), not-false (t .result) (c .before .before .if2 .left))))))

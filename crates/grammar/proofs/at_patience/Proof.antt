@@ -15,4 +15,7 @@ at-patience-spec =
     (tie.spec
     (λ c κs. search needs) (λ c κs. search needs)
     (λ c. let n = c .before .before .before .args .n in c .more .ensures ∙ simp (within-yes 1 0xfff_ffff n (omega arith) (omega arith)))
-    (λ c. let n = c .before .before .args .n in c .refused .ensures ∙ ⊎-elim (λ w. simp (within-low 1 0xfff_ffff n (w .taken))) (λ w. simp (within-high 1 0xfff_ffff n (w .1 .left))) (c .before .if1 .came)))
+    (λ c.
+    let n = c .before .before .args .n in
+    c .refused .ensures
+    ∙ ⊎-elim (λ w. simp (within-low 1 0xfff_ffff n (w .taken))) (λ w. simp (within-high 1 0xfff_ffff n (w .1 .left))) (c .before .if1 .came)))

@@ -15,6 +15,11 @@ at-request-spec =
     (λ c κs. search needs)
     (λ c. c .refused .ensures ∙ simp (eq-eqb (c .before .before .args .n) 0 (omega arith)))
     (λ c κs. search needs)
-    (λ c. let a = c .before .before .before .before .args in c .complete .ensures ∙ simp (ne-eqb (a .n) 0 (λ e. omega arith), le-leb (a .s .requests) 1 (omega arith)))
+    (λ c.
+    let a = c .before .before .before .before .args in
+    c .complete .ensures ∙ simp (ne-eqb (a .n) 0 (λ e. omega arith), le-leb (a .s .requests) 1 (omega arith)))
     (λ c. search needs) (λ c κs. search needs)
-    (λ c. let a = c .before .before .before .before .before .args in c .more .ensures ∙ simp (ne-eqb (a .n) 0 (λ e. omega arith), lt-leb (a .s .requests) 1 (omega arith))))
+    (λ c.
+    let several = c .before .before in
+    let a = several .before .before .before .args in
+    c .more .ensures ∙ simp (ne-eqb (a .n) 0 (λ e. omega arith), lt-leb (a .s .requests) 1 (omega arith))))

@@ -16,6 +16,20 @@ at-table-spec =
     (λ c κs. search needs)
     (λ c. c .refused .ensures ∙ simp (lt-leb (c .before .before .args .n) 3 (omega arith)))
     (λ c κs. search needs) (λ c κs. search needs)
-    (λ c. let s = c .before .before .before .before .before .args in let k = c .before .before .before .counted in c .more .ensures ∙ rw (k .ensures) (simp (le-leb (s .n) 3 (omega arith), lt-ltb 0 (tallied (tallyOf (s .s)) (s .s .turn) (s .n) .coming) (omega (arith, ap (λ (j : Judge). j .coming) (k .ensures))))))
+    (λ c.
+    let counted = c .before .before .before in
+    let a = counted .before .before .args in
+    let k = counted .counted in
+    let coming = tallied (tallyOf (a .s)) (a .s .turn) (a .n) .coming in
+    c .more .ensures
+    ∙ rw (k .ensures)
+    (simp (le-leb (a .n) 3 (omega arith), lt-ltb 0 coming (omega (arith, ap (λ (j : Judge). j .coming) (k .ensures))))))
     (λ c κs. search needs)
-    (λ c. let s = c .before .before .before .before .before .args in let k = c .before .before .before .counted in c .table-done .ensures ∙ rw (k .ensures) (simp (le-leb (s .n) 3 (omega arith), le-ltb 0 (tallied (tallyOf (s .s)) (s .s .turn) (s .n) .coming) (omega (arith, ap (λ (j : Judge). j .coming) (k .ensures)))))))
+    (λ c.
+    let counted = c .before .before .before in
+    let a = counted .before .before .args in
+    let k = counted .counted in
+    let coming = tallied (tallyOf (a .s)) (a .s .turn) (a .n) .coming in
+    c .table-done .ensures
+    ∙ rw (k .ensures)
+    (simp (le-leb (a .n) 3 (omega arith), le-ltb 0 coming (omega (arith, ap (λ (j : Judge). j .coming) (k .ensures)))))))

@@ -10,4 +10,10 @@ counted-spec =
     tie.close
     (tie.spec
     (λ c κs. search needs) (λ c κs. search needs) (λ c κs. search needs) (λ c κs. search needs) (λ c κs. search needs) (λ c κs. search needs)
-    (λ c. rw (← c .before .before .before .before .before .before .marks-active .ensures, ← c .before .before .before .before .leading .ensures, ← c .before .before .before .minus-one .ensures, ← c .before .before .plus-one .ensures, ← c .before .marks-faulty .ensures, ← c .plus-one2 .ensures)))
+    (λ c.
+    let counts-active = c .before .before in
+    let leads = counts-active .before .before in
+    let marked = leads .before .before in
+    rw (← marked .marks-active .ensures, ← leads .leading .ensures)
+    (rw (← c .before .before .before .minus-one .ensures, ← counts-active .plus-one .ensures)
+    (rw (← c .before .marks-faulty .ensures, ← c .plus-one2 .ensures)))))

@@ -13,6 +13,12 @@ operand-goes-spec =
     tie.close
     (tie.spec
     (λ c κs. search needs) (λ c κs. search needs)
-    (λ c. c .more .ensures ∙ rw (← c .before .before .before .operand-count .ensures) (simp (lt-ltb (c .before .before .before .before .args .s .at) (c .before .before .before .operand-count .result) (omega arith))))
+    (λ c.
+    let counted = c .before .before .before in
+    let n = counted .operand-count in
+    c .more .ensures ∙ rw (← n .ensures) (simp (lt-ltb (counted .before .args .s .at) (n .result) (omega arith))))
     (λ c κs. search needs)
-    (λ c. c .file .ensures ∙ rw (← c .before .before .before .operand-count .ensures) (simp (le-ltb (c .before .before .before .before .args .s .at) (c .before .before .before .operand-count .result) (omega arith)))))
+    (λ c.
+    let counted = c .before .before .before in
+    let n = counted .operand-count in
+    c .file .ensures ∙ rw (← n .ensures) (simp (le-ltb (counted .before .args .s .at) (n .result) (omega arith)))))

@@ -1,4 +1,4 @@
--- `fill`: a place of the list in each turn. Assumes nothing.
+-- `fill`: a place of the list in each turn; nothing has to hold from turn to turn. Assumes nothing.
 use borrow.Author.Needs.{needs}
 use Prim.Native.Nat.{_-_}
 use Rattle.holds_cases.proofs.fill.Statement.{statement}

@@ -1,4 +1,4 @@
--- `take_lines`: a line starts before it ends. Assumes nothing.
+-- `take_lines`. The invariant: the line that is looked at starts at the place or before it. Assumes nothing.
 use borrow.Author.Needs.{needs}
 use lib.ListN.{length}
 use Prim.Native.Nat.{_-_, _≤_}

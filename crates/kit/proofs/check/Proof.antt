@@ -1,4 +1,5 @@
--- `check`: the invariant is Checking, and each way out of the loop is one of its laws. Assumes nothing.
+-- `check`. The invariant (`Checking`): the judge has heard the numbers before the place, and what it will say of those from there on is what is
+-- said of the whole. Each way out of the loop is one of its laws. Assumes nothing.
 use borrow.Author.Needs.{needs}
 use mathlib.Core.Path.{_≡_, _∙_, sym, ap}
 use Prim.Native.Nat.{_-_}
@@ -17,10 +18,13 @@ Inv-loop bytes judge₀ at₀ judge at = Checking bytes judge at
 abbrev μ-loop : tie.MeasureT-loop
 μ-loop bytes judge₀ at₀ judge at = length bytes - at
 
--- the number that was read, and what the judge said of it
+-- the head of the turn in which a number was read
+abbrev head : tie.After-value Inv-loop μ-loop → tie.At-loop Inv-loop μ-loop
+head c = c .before .before .before
+
+-- the number that was read
 found : (c : tie.After-value Inv-loop μ-loop)
-    → numberAt (c .before .before .before .before .before .before .args .bytes .now) (c .before .before .before .loop .at)
-    ≡ Number (c .value .given .0 .0) (c .value .given .0 .1 .0)
+    → numberAt (head c .before .before .before .args .bytes .now) (head c .loop .at) ≡ Number (c .value .given .0 .0) (c .value .given .0 .1 .0)
 found c = sym (c .before .before .read-number .ensures) ∙ c .value .given .1
 
 pub check-spec : {M : Type 1} → statement M
@@ -34,10 +38,31 @@ check-spec =
     (λ c. search needs)
     (λ c. misspelled (c .before .before .before .loop .inv) (sym (c .before .before .read-number .ensures) ∙ c .enum-told2 .given .1))
     (λ c. search needs) (λ c κs. search needs) (λ c. search needs)
-    (λ c. refused (c .before .before .before .before .before .before .before .before .loop .inv) (found (c .before .before .before .before .before)) (c .before .said .given .0 .0) (ap (λ (t : Step). t .said) (sym (c .before .before .before .feed .ensures)) ∙ c .before .said .given .1))
+    (λ c.
+    let fed = c .before .before .before in
+    let read = fed .before .before in
+    refused (head read .loop .inv) (found read) (c .before .said .given .0 .0)
+    (ap (λ (t : Step). t .said) (sym (fed .feed .ensures)) ∙ c .before .said .given .1))
     (λ c. search needs)
-    (λ c. simp (lt-ltb (c .before .before .before .before .before .value .given .0 .1 .0) (length (c .before .before .before .before .before .before .before .before .before .before .before .args .bytes .now)) (c .if1 .taken)) at (done (c .before .before .before .before .before .before .before .before .loop .inv) (found (c .before .before .before .before .before)) (ap (λ (t : Step). t .said) (sym (c .before .before .before .feed .ensures)) ∙ c .before .enum-told3 .given .1)))
-    (λ c. simp (le-ltb (c .before .before .before .before .before .value .given .0 .1 .0) (length (c .before .before .before .before .before .before .before .before .before .before .before .args .bytes .now)) (c .if1 .left)) at (done (c .before .before .before .before .before .before .before .before .loop .inv) (found (c .before .before .before .before .before)) (ap (λ (t : Step). t .said) (sym (c .before .before .before .feed .ensures)) ∙ c .before .enum-told3 .given .1)))
+    (λ c.
+    let fed = c .before .before .before in
+    let read = fed .before .before in
+    let bytes = head read .before .before .before .args .bytes .now in
+    simp (lt-ltb (read .value .given .0 .1 .0) (length bytes) (c .if1 .taken)) at
+    (done (head read .loop .inv) (found read) (ap (λ (t : Step). t .said) (sym (fed .feed .ensures)) ∙ c .before .enum-told3 .given .1)))
+    (λ c.
+    let fed = c .before .before .before in
+    let read = fed .before .before in
+    let bytes = head read .before .before .before .args .bytes .now in
+    simp (le-ltb (read .value .given .0 .1 .0) (length bytes) (c .if1 .left)) at
+    (done (head read .loop .inv) (found read) (ap (λ (t : Step). t .said) (sym (fed .feed .ensures)) ∙ c .before .enum-told3 .given .1)))
     (λ c. search needs)
-    (λ c. less (c .before .before .before .before .before .before .before .before .loop .inv) (found (c .before .before .before .before .before)))
-    (λ c. rw (c .before .before .before .feed .ensures) (goes-on (c .before .before .before .before .before .before .before .before .loop .inv) (found (c .before .before .before .before .before)) (ap (λ (t : Step). t .said) (sym (c .before .before .before .feed .ensures)) ∙ c .before .enum-told4 .given .1))))
+    (λ c.
+    let fed = c .before .before .before in
+    let read = fed .before .before in
+    less (head read .loop .inv) (found read))
+    (λ c.
+    let fed = c .before .before .before in
+    let read = fed .before .before in
+    rw (fed .feed .ensures)
+    (goes-on (head read .loop .inv) (found read) (ap (λ (t : Step). t .said) (sym (fed .feed .ensures)) ∙ c .before .enum-told4 .given .1))))

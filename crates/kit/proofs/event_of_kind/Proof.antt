@@ -13,5 +13,21 @@ event-of-kind-spec =
     (λ c κs. rw (c .before .operand-count .ensures) (operands-few (c .before .before .before .args .kind)))
     (λ c. search needs) (λ c. search needs) (λ c. search needs) (λ c. search needs) (λ c. search needs) (λ c κs. search needs)
     (λ c. search needs) (λ c. search needs) (λ c κs. search needs) (λ c. search needs)
-    (λ c κs. rw (c .before .filed-by .ensures) (filed-few (c .before .before .before .before .before .before .before .before .args .kind) _ _))
-    (λ c. event-read (c .before .before .before .before .before .before .before .before .before .args .bytes .now) (c .before .before .before .before .before .before .before .before .before .args .gap) (c .before .before .before .before .before .before .before .before .before .args .kind) (c .before .before .before .before .before .before .before .before .before .args .at) (c .before .before .before .before .before .before .before .before .before .args .list .now) (c .requests .last .1 .1 .1 .1 .0) (c .before .before .before .before .before .before .before .operand-count .result) (c .before .before .before .before .before .take-into .result) (c .before .before .filed-by .result) (c .requests .result) (c .before .before .before .before .before .take-into .last .1 .1 .1 .0) (c .before .before .before .event-of .result) (c .before .before .before .before .before .before .before .operand-count .ensures) (c .before .before .before .before .before .take-into .ensures) (c .before .before .before .event-of .ensures) (c .before .before .filed-by .ensures) (c .requests .ensures)))
+    (λ c κs.
+    let filed = c .before in
+    let taken = filed .before .before .before in
+    let a = taken .before .before .before .before .args in
+    rw (filed .filed-by .ensures) (filed-few (a .kind) _ _))
+    (λ c.
+    let filed = c .before .before in
+    let made = filed .before in
+    let taken = made .before .before in
+    let counted = taken .before .before in
+    let a = counted .before .before .args in
+    let n = counted .operand-count in
+    let t = taken .take-into in
+    let e = made .event-of in
+    let f = filed .filed-by in
+    let q = c .requests in
+    event-read (a .bytes .now) (a .gap) (a .kind) (a .at) (a .list .now) (q .last .1 .1 .1 .1 .0) (n .result) (t .result) (f .result) (q .result)
+    (t .last .1 .1 .1 .0) (e .result) (n .ensures) (t .ensures) (e .ensures) (f .ensures) (q .ensures)))

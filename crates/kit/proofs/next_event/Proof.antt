@@ -10,5 +10,19 @@ next-event-spec =
     tie.close
     (tie.spec
     (λ c κs. search needs) (λ c κs. search needs) (λ c κs. search needs) (λ c. search needs) (λ c. search needs) (λ c κs. search needs)
-    (λ c. stepped-idle (c .before .before .before .before .before .before .args .bytes .now) (c .before .before .before .before .before .before .args .at) (c .before .before .before .before .before .before .args .list .now) (c .before .before .before .before .take .result) (c .before .before .before .take2 .result) (c .before .before .before .before .take .ensures) (c .before .before .before .take2 .ensures) (sym (c .before .before .kind-of .ensures) ∙ c .enum-told .given .1))
-    (λ c. stepped-kind (c .before .before .before .before .before .before .before .before .before .args .bytes .now) (c .before .before .before .before .before .before .before .before .before .args .at) (c .before .before .before .before .before .before .before .before .before .args .list .now) (c .before .before .before .before .before .before .before .take .result) (c .before .before .before .before .before .before .take2 .result) (c .before .before .before .before .before .before .before .take .ensures) (c .before .before .before .before .before .before .take2 .ensures) (c .before .before .before .kind .given .0 .0) (c .event-of-kind .last .1 .1 .1 .1 .0) (c .event-of-kind .result) (sym (c .before .before .before .before .before .kind-of .ensures) ∙ c .before .before .before .kind .given .1) (c .event-of-kind .ensures)))
+    (λ c.
+    let asked = c .before .before in
+    let number = asked .before in
+    let gap = number .before in
+    let a = gap .before .before .args in
+    stepped-idle (a .bytes .now) (a .at) (a .list .now) (gap .take .result) (number .take2 .result) (gap .take .ensures) (number .take2 .ensures)
+    (sym (asked .kind-of .ensures) ∙ c .enum-told .given .1))
+    (λ c.
+    let found = c .before .before .before in
+    let asked = found .before .before in
+    let number = asked .before in
+    let gap = number .before in
+    let a = gap .before .before .args in
+    let e = c .event-of-kind in
+    stepped-kind (a .bytes .now) (a .at) (a .list .now) (gap .take .result) (number .take2 .result) (gap .take .ensures) (number .take2 .ensures)
+    (found .kind .given .0 .0) (e .last .1 .1 .1 .1 .0) (e .result) (sym (asked .kind-of .ensures) ∙ found .kind .given .1) (e .ensures)))

@@ -11,4 +11,14 @@ open-spec =
     (λ c κs. search needs) (λ c κs. search needs) (λ c κs. search needs) (λ c κs. search needs) (λ c. search needs)
     (λ c κs. rw (c .before .size-of .ensures) (size-most (c .before .before .before .before .take .result .value)))
     (λ c κs. search needs) (λ c. search needs) (λ c. search needs)
-    (λ c. opened (c .before .before .before .before .before .before .before .before .before .before .before .args .bytes .now) (c .before .before .before .before .before .before .before .before .before .take .result) (c .before .before .before .before .before .before .before .before .take2 .result) (c .before .before .before .before .before .before .before .take3 .result) (c .before .before .take4 .result) (c .before .before .before .before .before .before .size-of .result) (c .before .before .before .before .take-into .result) (c .before .before .before .before .take-into .last .1 .1 .1 .0) (c .before .before .before .before .before .before .before .before .before .take .ensures) (c .before .before .before .before .before .before .before .before .take2 .ensures) (c .before .before .before .before .before .before .before .take3 .ensures) (c .before .before .before .before .before .before .size-of .ensures) (c .before .before .before .before .take-into .ensures) (c .before .before .take4 .ensures)))
+    (λ c.
+    let count = c .before .before in
+    let table = count .before .before in
+    let size = table .before .before in
+    let patience = size .before in
+    let leader = patience .before in
+    let f = leader .before in
+    let t = table .take-into in
+    opened (f .before .before .args .bytes .now) (f .take .result) (leader .take2 .result) (patience .take3 .result) (count .take4 .result)
+    (size .size-of .result) (t .result) (t .last .1 .1 .1 .0) (f .take .ensures) (leader .take2 .ensures) (patience .take3 .ensures)
+    (size .size-of .ensures) (t .ensures) (count .take4 .ensures)))

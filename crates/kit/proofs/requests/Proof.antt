@@ -11,4 +11,9 @@ requests-spec =
     (λ c. search needs) (λ c. search needs) (λ c. search needs) (λ c. search needs) (λ c. search needs) (λ c. search needs)
     (λ c. search needs) (λ c. search needs) (λ c κs. search needs) (λ c. search needs) (λ c. search needs) (λ c. search needs)
     (λ c. search needs) (λ c. search needs) (λ c. search needs) (λ c. search needs)
-    (λ c. rw (c .before .before .before .enum-told8 .given .1) (requests-file (c .before .before .before .before .before .before .args .bytes .now) (c .before .before .before .before .before .before .args .at) (c .before .before .before .before .before .before .args .count) (c .before .before .before .before .before .before .args .list .now) (c .take-into .last .1 .1 .1 .0) (c .take-into .result) (c .take-into .ensures))))
+    (λ c.
+    let is-file = c .before .before .before in
+    let a = is-file .before .before .before .args in
+    let t = c .take-into in
+    rw (is-file .enum-told8 .given .1)
+    (requests-file (a .bytes .now) (a .at) (a .count) (a .list .now) (t .last .1 .1 .1 .0) (t .result) (t .ensures))))

@@ -1,4 +1,5 @@
--- `take_into`: the invariant is Filling. Assumes nothing.
+-- `take_into`. The invariant (`Filling`): the numbers from the place on, as many as are left, stored from entry i on, make of the list what all the
+-- numbers make of the list as it was, and end where they end. Assumes nothing.
 use Prim.Native.Nat.{_-_}
 use native.Mathlib.Omega.{arith}
 use borrow.Author.Needs.{needs}
@@ -17,7 +18,7 @@ take-into-spec =
     tie.close
     (tie.spec
     Inv-loop μ-loop
-    (λ c. filling-first (c .before .before .args .bytes .now) (c .before .before .args .at) (c .before .before .args .count) (c .before .before .args .out .now))
+    (λ c. let a = c .before .before .args in filling-first (a .bytes .now) (a .at) (a .count) (a .out .now))
     (λ c κs. search needs) (λ c. search needs)
     (λ c. omega (arith, c .before .before .loop .inv .storing .long))
     (λ c. search needs)

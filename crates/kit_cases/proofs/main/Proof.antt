@@ -1,4 +1,4 @@
--- `main` goes through the arguments once. Assumes nothing.
+-- `main` goes through the arguments once: nothing has to hold from turn to turn. Assumes nothing.
 use borrow.Author.Needs.{needs}
 use Prim.Native.Nat.{_-_}
 use Rattle.kit_cases.proofs.main.Statement.{statement}

@@ -12,5 +12,9 @@ digit-spec =
     (tie.spec (λ c. rw (lt-ltb _ _ (c .if1 .taken)))
     (λ c. rw (le-ltb _ _ (c .before .if1 .left), lt-ltb _ _ (c .if2 .taken)))
     (λ c. rw (le-ltb _ _ (c .before .before .if1 .left), le-ltb _ _ (c .before .if2 .left), lt-ltb _ _ (c .if3 .taken))) (λ c. search needs)
-    (λ c. rw (le-ltb _ _ (c .before .before .before .if1 .left), le-ltb _ _ (c .before .before .if2 .left), le-ltb _ _ (c .before .if3 .left), lt-ltb _ _ (c .if4 .taken)))
-    (λ c. rw (le-ltb _ _ (c .before .before .before .if1 .left), le-ltb _ _ (c .before .before .if2 .left), le-ltb _ _ (c .before .if3 .left), le-ltb _ _ (c .if4 .left))))
+    (λ c.
+    let past-nine = c .before .before in
+    rw (le-ltb _ _ (past-nine .before .if1 .left), le-ltb _ _ (past-nine .if2 .left), le-ltb _ _ (c .before .if3 .left), lt-ltb _ _ (c .if4 .taken)))
+    (λ c.
+    let past-nine = c .before .before in
+    rw (le-ltb _ _ (past-nine .before .if1 .left), le-ltb _ _ (past-nine .if2 .left), le-ltb _ _ (c .before .if3 .left), le-ltb _ _ (c .if4 .left))))

@@ -1,4 +1,5 @@
--- `put_hex`: the digits from place i on are still to come. Assumes nothing.
+-- `put_hex`. The invariant (`Rest`): the bytes that the digits from place i on spell, with the one that waits, put from here on, give what all the
+-- digits give from the start. Assumes nothing.
 use borrow.Author.Needs.{needs}
 use mathlib.Core.Path.{refl, ap}
 use Prim.Native.Nat.{_-_}
@@ -19,10 +20,17 @@ pub put-hex-spec : {M : Type 1} → statement M
 unfolding hexFrom
 put-hex-spec =
     tie.close
-    (tie.spec Inv-loop μ-loop (λ c. rest-start _ _ refl) (λ c. search needs) (λ c κs. search needs) (λ c κs. search needs) (λ c κs. search needs) (λ c. search needs) (λ c. search needs)
-    (λ c. let s = c .before .before .before .before .before .before .before .before .loop in
-    rw (c .next-waiting .ensures, c .before .before .before .before .before .digit .ensures)
-    (rest-next (s .inv) (hex-next (c .before .before .before .before .before .before .before .before .before .before .before .args .hex .now) (s .i) (s .high) (c .before .before .before .before .before .before .before .loop-test .taken))
-    (lays-as (c .before .before .before .put-pair .ensures) (ap (pairBytes _) (c .before .before .before .before .before .digit .ensures)))))
+    (tie.spec
+    Inv-loop μ-loop (λ c. rest-start _ _ refl) (λ c. search needs) (λ c κs. search needs) (λ c κs. search needs) (λ c κs. search needs)
+    (λ c. search needs) (λ c. search needs)
+    (λ c.
+    let put = c .before .before .before in
+    let read = put .before .before in
+    let turn = read .before .before in
+    let s = turn .before .loop in
+    let hex = turn .before .before .before .before .args .hex .now in
+    rw (c .next-waiting .ensures, read .digit .ensures)
+    (rest-next (s .inv) (hex-next hex (s .i) (s .high) (turn .loop-test .taken))
+    (lays-as (put .put-pair .ensures) (ap (pairBytes _) (read .digit .ensures)))))
     (λ c. c .before .loop .inv .long)
     (λ c. rest-over (c .before .loop .inv) (rw (drop-of-length-le (c .before .before .before .before .args .hex .now) (c .loop-test .left)))))

@@ -13,4 +13,7 @@ put-pair-spec =
     (tie.spec (λ c. lays-as (lays-none _ _) (rw (le-leb _ _ (c .if1 .taken))))
     (λ c. lays-as (lays-none _ _) (rw (lt-leb _ _ (c .before .if1 .left), le-leb _ _ (c .if2 .taken))))
     (λ c. search needs) (λ c. search needs) (λ c κs. search needs) (λ c. search needs)
-    (λ c. lays-as (c .before .before .put-byte .ensures) (rw (lt-leb _ _ (c .before .before .before .before .before .if1 .left), lt-leb _ _ (c .before .before .before .before .if2 .left)))))
+    (λ c.
+    let put = c .before .before in
+    let waits = put .before .before in
+    lays-as (put .put-byte .ensures) (rw (lt-leb _ _ (waits .before .if1 .left), lt-leb _ _ (waits .if2 .left)))))

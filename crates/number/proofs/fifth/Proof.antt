@@ -13,11 +13,16 @@ returns-2 : tie.Need-returns-2
 returns-2 c = let a = c .before .before .before .before .args in fifth-idle (now (a .bytes)) (a .at) (a .bits) (omega arith) (c .if2 .taken)
 
 returns-3 : tie.Need-returns-3
-returns-3 c = let a = c .before .before .before .before .before .args in fifth-large (now (a .bytes)) (a .at) (a .bits) (omega arith) (c .if3 .taken)
+returns-3 c =
+    let within = c .before .before .before in
+    let a = within .before .before .args in
+    fifth-large (now (a .bytes)) (a .at) (a .bits) (omega arith) (c .if3 .taken)
 
 returns-4 : tie.Need-returns-4
 returns-4 c =
-    let a = c .before .before .before .before .before .before .before .args in
+    let small = c .before .before in
+    let within = small .before .before .before in
+    let a = within .before .before .args in
     rw (c .joined .ensures, c .before .group .ensures)
     (fifth-whole (now (a .bytes)) (a .at) (a .bits) (omega arith) (λ z. omega arith) (omega arith))
 

@@ -1,4 +1,5 @@
--- The second to the fifth group: one law of `Reading` for each way out of a turn, and for the way on. Assumes nothing.
+-- The second to the fifth group. The invariant (`Head`): the groups from place i on, over the bits of those before it, say what the groups from
+-- the start say, and those bits are below 2 ^ shift. One law of `Reading` for each way out of a turn, and for the way on. Assumes nothing.
 use borrow.Author.Needs.{needs}
 use borrow.Author.Tests.{ltb-true, ltb-false}
 use native.Mathlib.Omega.{arith}
@@ -25,19 +26,24 @@ returns-2 c = idle (c .before .before .before .before .loop .inv) (omega arith) 
 
 joined-requires : tie.Need-joined-requires Inv-loop μ-loop
 joined-requires c κs =
-    let head = c .before .before .before .before .before .loop .inv in
+    let turn = c .before .before .before .before in
+    let head = turn .before .loop .inv in
     ((head .small, omega arith), room head (c .group .result) (omega arith) (omega arith))
 
 returns-3 : tie.Need-returns-3 Inv-loop μ-loop
 returns-3 c =
-    let head = c .before .before .before .before .before .before .before .before .loop .inv in
-    rw (c .before .before .joined .ensures, c .before .before .before .group .ensures)
+    let grouped = c .before .before .before in
+    let turn = grouped .before .before .before .before in
+    let head = turn .before .loop .inv in
+    rw (c .before .before .joined .ensures, grouped .group .ensures)
     (stops head (omega arith) (omega arith) (λ z. omega arith) (ltb-true _ 128 (sym (c .before .is-last .ensures) ∙ c .if3 .taken)))
 
 loop-again : tie.Need-loop-again Inv-loop μ-loop
 loop-again c =
-    let head = c .before .before .before .before .before .before .before .before .loop .inv in
-    rw (c .before .before .joined .ensures, c .before .before .before .group .ensures)
+    let grouped = c .before .before .before in
+    let turn = grouped .before .before .before .before in
+    let head = turn .before .loop .inv in
+    rw (c .before .before .joined .ensures, grouped .group .ensures)
     (goes-on head (omega arith) (omega arith) (ltb-false _ 128 (sym (c .before .is-last .ensures) ∙ c .if3 .left)))
 
 fifth-requires : tie.Need-fifth-requires Inv-loop μ-loop

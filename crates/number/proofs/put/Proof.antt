@@ -1,4 +1,5 @@
--- Writes the spelling: a turn is one law of `Writing`, and so is the end. Assumes nothing.
+-- Writes the spelling. The invariant (`Head`): the spelling of what is left of the number, stored from the place on, gives what the whole spelling
+-- gives stored from `at` on, and ends where it ends. A turn is one law of `Writing`, and so is the end. Assumes nothing.
 use borrow.Author.Needs.{needs}
 use native.Mathlib.Omega.{arith}
 use lib.ListN.{length-set}

@@ -13,14 +13,16 @@ returns c = let a = c .before .before .args in sym (past-end (a .bytes .now) (a 
 
 returns-2 : tie.Need-returns-2
 returns-2 c =
-    let a = c .before .before .before .before .before .before .args in
+    let asked = c .before .before in
+    let a = asked .before .before .before .before .args in
     rw (c .group .ensures)
-    (first-alone (a .bytes .now) (a .at) (omega arith) (ltb-true _ 128 (sym (c .before .before .is-last .ensures) ∙ c .before .if2 .taken)))
+    (first-alone (a .bytes .now) (a .at) (omega arith) (ltb-true _ 128 (sym (asked .is-last .ensures) ∙ c .before .if2 .taken)))
 
 returns-3 : tie.Need-returns-3
 returns-3 c =
-    let a = c .before .before .before .before .before .before .before .args in
-    let more = ltb-false _ 128 (sym (c .before .before .before .is-last .ensures) ∙ c .before .before .if2 .left) in
+    let asked = c .before .before .before in
+    let a = asked .before .before .before .before .args in
+    let more = ltb-false _ 128 (sym (asked .is-last .ensures) ∙ c .before .before .if2 .left) in
     c .later .ensures ∙ rw (c .before .group2 .ensures) (first-more (a .bytes .now) (a .at) (omega arith) more)
 
 pub read-number-spec : {M : Type 1} → statement M

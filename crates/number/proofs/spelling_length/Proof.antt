@@ -26,13 +26,19 @@ returns-4 : tie.Need-returns-4
 unfolding spelling
 returns-4 c =
     let n = c .before .before .before .before .args .n in
-    simp (le-ltb n 128 (omega arith), le-ltb (n / 128) 128 (omega arith), le-ltb (n / 128 / 128) 128 (omega arith), lt-ltb (n / 128 / 128 / 128) 128 (omega arith))
+    let two-or-more = le-ltb n 128 (omega arith) in
+    let three-or-more = le-ltb (n / 128) 128 (omega arith) in
+    let four-or-more = le-ltb (n / 128 / 128) 128 (omega arith) in
+    simp (two-or-more, three-or-more, four-or-more, lt-ltb (n / 128 / 128 / 128) 128 (omega arith))
 
 returns-5 : tie.Need-returns-5
 unfolding spelling
 returns-5 c =
     let n = c .before .before .before .before .args .n in
-    simp (le-ltb n 128 (omega arith), le-ltb (n / 128) 128 (omega arith), le-ltb (n / 128 / 128) 128 (omega arith), le-ltb (n / 128 / 128 / 128) 128 (omega arith))
+    let two-or-more = le-ltb n 128 (omega arith) in
+    let three-or-more = le-ltb (n / 128) 128 (omega arith) in
+    let four-or-more = le-ltb (n / 128 / 128) 128 (omega arith) in
+    simp (two-or-more, three-or-more, four-or-more, le-ltb (n / 128 / 128 / 128) 128 (omega arith))
 
 pub spelling-length-spec : {M : Type 1} → statement M
 spelling-length-spec = tie.close (tie.spec returns returns-2 returns-3 returns-4 returns-5)

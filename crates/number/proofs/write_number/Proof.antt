@@ -13,8 +13,10 @@ returns-2 c = let a = c .before .before .before .before .args in no-room (a .out
 
 returns-3 : tie.Need-returns-3
 returns-3 c =
-    let a = c .before .before .before .before .before .before .before .before .args in
-    let put = c .before .before .put in
+    let written = c .before .before in
+    let has-room = written .before .before in
+    let a = has-room .before .before .before .before .args in
+    let put = written .put in
     stored (a .out .now) (put .last .0) (a .at) (a .n) (put .result) (omega arith) (put .ensures .0) (put .ensures .1)
 
 pub write-number-spec : {M : Type 1} → statement M

@@ -1,4 +1,4 @@
--- The place of a line's end: the place goes up, and not past the text's end. Assumes nothing.
+-- The place of a line's end. The invariant: the place is not before `at`, where it starts, and not past the text's end. Assumes nothing.
 use borrow.Author.Needs.{needs}
 use lib.ListN.{length}
 use Prim.Native.Nat.{_-_, _≤_}

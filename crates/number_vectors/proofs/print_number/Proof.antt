@@ -11,8 +11,9 @@ array-share-prefix-out c = written-within (c .before .before .before .before .wr
 
 slice-aggregate-print-bytes : tie.Need-slice-aggregate-print-bytes
 slice-aggregate-print-bytes c =
-    let w = c .before .before .before .before .before .write-number in
-    sym (length-take-le (c .before .before .size .given .0 .0) (w .last .0) (written-within (w .ensures) (c .before .before .size .given .1)))
+    let sized = c .before .before in
+    let w = sized .before .before .before .write-number in
+    sym (length-take-le (sized .size .given .0 .0) (w .last .0) (written-within (w .ensures) (sized .size .given .1)))
 
 pub print-number-spec : {M : Type 1} → statement M
 print-number-spec =

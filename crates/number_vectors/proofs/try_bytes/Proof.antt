@@ -1,4 +1,4 @@
--- Reads on to the end: each place is further on than the one before. Assumes nothing.
+-- Reads on to the end: nothing has to hold from turn to turn, and each place is further on than the one before. Assumes nothing.
 use borrow.Author.Needs.{needs}
 use native.Mathlib.Omega.{arith}
 use lib.ListN.{length}
@@ -15,8 +15,9 @@ abbrev μ-loop : tie.MeasureT-loop
 
 loop-less : tie.Need-loop-less Inv-loop μ-loop
 loop-less c =
-    let bytes = c .before .before .before .before .before .before .before .args .bytes .now in
-    let at = c .before .before .before .before .loop .at in
+    let head = c .before .before .before .before in
+    let bytes = head .before .before .before .args .bytes .now in
+    let at = head .loop .at in
     omega (arith, c .try-place2 .ensures, forward bytes at (omega arith))
 
 pub try-bytes-spec : {M : Type 1} → statement M

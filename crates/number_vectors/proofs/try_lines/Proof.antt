@@ -1,4 +1,4 @@
--- Tries each line: the place after a line's end is further on. Assumes nothing.
+-- Tries each line. The invariant: the place is not past the text's end; the place after a line's end is further on. Assumes nothing.
 use borrow.Author.Needs.{needs}
 use lib.ListN.{length}
 use Prim.Native.Nat.{_-_, _≤_}

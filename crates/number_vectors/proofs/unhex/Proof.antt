@@ -1,4 +1,5 @@
--- The bytes that digits spell: a turn that stores a digit is a law of `Packed`. Assumes nothing.
+-- The bytes that digits spell. The invariant (`Packed`): no more digits than were looked at, none past the end of out, which keeps its length.
+-- A turn that stores a digit is a law of `Packed`. Assumes nothing.
 use borrow.Author.Needs.{needs}
 use native.Mathlib.Omega.{arith}
 use mathlib.Core.Path.{sym}
@@ -16,7 +17,10 @@ abbrev μ-loop : tie.MeasureT-loop
 μ-loop hex out₀ digits₀ i₀ out digits i = length hex - i
 
 loop-again : tie.Need-loop-again Inv-loop μ-loop
-loop-again c = packed-more (c .before .before .before .before .before .before .loop .inv) _ (omega arith) (search needs)
+loop-again c =
+    let digit = c .before .before .before in
+    let turn = digit .before .before in
+    packed-more (turn .before .loop .inv) _ (omega arith) (search needs)
 
 returns : tie.Need-returns Inv-loop μ-loop
 returns c = let l = c .before .loop in (omega arith, sym (length-take-le (l .digits / 2) (l .out) (omega arith)))

@@ -8,4 +8,4 @@ pub fresh-replica-spec : {M : Type 1} → statement M
 fresh-replica-spec =
     tie.close
     (tie.spec (λ c κs. search needs) (λ c κs. search needs)
-    (λ c. c .fresh .ensures ∙ rw (c .before .is-faulty .ensures)))
+    (λ c. c .fresh .ensures ∙ rw (c .before .marks-faulty .ensures)))

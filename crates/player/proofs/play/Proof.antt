@@ -19,7 +19,7 @@ abbrev μ-loop : tie.MeasureT-loop
 
 loop-holds : tie.Need-loop-holds Inv-loop μ-loop
 unfolding playOn
-loop-holds c = (search needs, rw (c .at-most .ensures) (omega arith), rw (c .before .fresh .ensures, c .at-most .ensures) (ap leftOf (turns-start _ _ _ _ _)))
+loop-holds c = (search needs, rw (c .lesser .ensures) (omega arith), rw (c .before .fresh .ensures, c .lesser .ensures) (ap leftOf (turns-start _ _ _ _ _)))
 
 below : (c : tie.After-concerned Inv-loop μ-loop) → c .concerned .result < 7
 below c = rw (c .concerned .ensures) (concerned-seven _ _)

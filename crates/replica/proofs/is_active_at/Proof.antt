@@ -14,4 +14,4 @@ is-active-at-spec =
     (λ c. search needs)
     (λ c. search needs)
     (λ c κs. search needs)
-    (λ c. c .is-active .ensures))
+    (λ c. c .marks-active .ensures))

@@ -2,6 +2,7 @@
 use mathlib.Core.Path.{refl}
 use Prim.Native.Nat.{_-_}
 use borrow.Author.Needs.{needs}
+use Rattle.terms.specs.Limits.{replicasMax}
 use Rattle.replica.specs.Record.{switchedIn, switchesIn}
 use Rattle.replica.proofs.Turns.{Counting, small, next-counted, all-counted}
 use Rattle.replica.proofs.switches.Statement.{statement}
@@ -11,7 +12,7 @@ abbrev Inv-loop : tie.InvT-loop
 Inv-loop accepted size n₀ y₀ n y = Counting (switchedIn accepted size) n y
 
 abbrev μ-loop : tie.MeasureT-loop
-μ-loop accepted size n₀ y₀ n y = 7 - y
+μ-loop accepted size n₀ y₀ n y = replicasMax - y
 
 pub switches-spec : {M : Type 1} → statement M
 unfolding switchesIn

@@ -34,9 +34,25 @@ pub +put-digits-spec : {M : Type 1} → statement M
     (digit-reads.Asked, digit-reads.Learnt, put-byte-reads.Asked, put-byte-reads.Learnt, put-digits-below t, put-digits.Post)
     (put-digits-at t)
     put-digits.Post
-    (λ c. rw (c .if1 .taken) (lays-none _ _)) (λ c κs. search needs) (λ c κs. search needs) (λ c. length-after (c .before .before .put-byte .ensures)) (λ c. let a = c .before .before .before .before .before .before .before .before .args in
-    lays-as (c .before .before .put-byte .ensures)
-    (ap (λ (d : ℕ). d ∷ []) (c .before .before .before .digit .ensures) ∙ sym (decimal-last (a .most) (a .n) (λ z. omega arith) (omega arith))))
-    (λ c. search needs) (λ c κs. (omega arith, tt)) (λ c κs. search needs) (λ c κs. search needs) (λ c. length-after (c .before .before .put-byte2 .ensures) ∙ length-after (c .before .before .before .before .before .before .before .put-digits .ensures)) (λ c. let a = c .before .before .before .before .before .before .before .before .before .before .before .before .args in
-    lays-as (then-lays (c .before .before .before .before .before .before .before .put-digits .ensures) (c .before .before .put-byte2 .ensures))
-    (ap (λ (d : ℕ). decimalIn (a .most - 1) (a .n / 10) ++ (d ∷ [])) (c .before .before .before .digit2 .ensures) ∙ sym (decimal-more (a .most) (a .n) (λ z. omega arith) (omega arith))))
+    (λ c. rw (c .if1 .taken) (lays-none _ _)) (λ c κs. search needs) (λ c κs. search needs) (λ c. length-after (c .before .before .put-byte .ensures))
+    (λ c.
+    let put = c .before .before in
+    let one-digit = put .before .before .before in
+    let a = one-digit .before .before .before .args in
+    lays-as (put .put-byte .ensures)
+    (ap (λ (d : ℕ). d ∷ []) (put .before .digit .ensures) ∙ sym (decimal-last (a .most) (a .n) (λ z. omega arith) (omega arith))))
+    (λ c. search needs) (λ c κs. (omega arith, tt)) (λ c κs. search needs) (λ c κs. search needs)
+    (λ c.
+    let last = c .before .before in
+    let found = last .before in
+    let higher = found .before .before .before .before in
+    length-after (last .put-byte2 .ensures) ∙ length-after (higher .put-digits .ensures))
+    (λ c.
+    let last = c .before .before in
+    let found = last .before in
+    let higher = found .before .before .before .before in
+    let more-digits = higher .before .before in
+    let a = more-digits .before .before .before .args in
+    lays-as (then-lays (higher .put-digits .ensures) (last .put-byte2 .ensures))
+    (ap (λ (d : ℕ). decimalIn (a .most - 1) (a .n / 10) ++ (d ∷ [])) (found .digit2 .ensures)
+    ∙ sym (decimal-more (a .most) (a .n) (λ z. omega arith) (omega arith))))

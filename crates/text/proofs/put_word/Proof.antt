@@ -1,4 +1,4 @@
--- `put_word`: what is left of the word, from here on, gives what the whole word gives from the start. Assumes nothing.
+-- `put_word`. The invariant: what is left of the word, put from here on, gives what the whole word gives put from the start. Assumes nothing.
 use borrow.Author.Needs.{needs}
 use mathlib.Core.Path.{_≡_, refl, sym, ap, _∙_}
 use Prim.Native.Nat.{_+_, _-_}
@@ -19,10 +19,13 @@ loop-holds c = (refl, refl)
 
 loop-again : tie.Need-loop-again Inv-loop μ-loop
 loop-again c =
-    let s = c .before .before .before .before .before .before .loop in
-    let e = c .before .before .put-byte .ensures in
-    let w = c .before .before .before .before .before .before .before .before .before .args .word .now in
-    ((length-after e) ∙ s .inv .0, s .inv .1 ∙ laid-from w (s .i) (s .out) (s .place) (search needs) ∙ ap (λ (p : Put). laid (p .bytes) (p .next) (drop (s .i + 1) w)) (sym (e .is)))
+    let put = c .before .before in
+    let head = put .before .before .before .before in
+    let s = head .loop in
+    let e = put .put-byte .ensures in
+    let w = head .before .before .before .args .word .now in
+    let stored = ap (λ (p : Put). laid (p .bytes) (p .next) (drop (s .i + 1) w)) (sym (e .is)) in
+    ((length-after e) ∙ s .inv .0, s .inv .1 ∙ laid-from w (s .i) (s .out) (s .place) (search needs) ∙ stored)
 
 same-length : tie.Need-same-length Inv-loop μ-loop
 same-length c = c .before .loop .inv .0

@@ -16,4 +16,6 @@ in-row-spec =
     (λ c. rw (c .match .keys3))
     (λ c. rw (c .match .keys4))
     (λ c. rw (c .match .keys5))
-    (λ c. sym (List·getD-eq-default (c .before .args .a ∷ c .before .args .b ∷ c .before .args .c ∷ c .before .args .d ∷ c .before .args .e ∷ []) Any {n = c .before .args .at} (omega arith))))
+    (λ c.
+    let row = c .before .args in
+    sym (List·getD-eq-default (row .a ∷ row .b ∷ row .c ∷ row .d ∷ row .e ∷ []) Any {n = row .at} (omega arith))))

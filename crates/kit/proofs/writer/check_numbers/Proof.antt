@@ -1,4 +1,5 @@
--- `check_numbers`: the invariant is Hearing. Assumes nothing.
+-- `check_numbers`. The invariant (`Hearing`): the judge has heard the first i numbers, and what it will say of the others is what is said of all.
+-- Assumes nothing.
 use mathlib.Core.Path.{sym, ap, _∙_}
 use Prim.Native.Nat.{_+_, _-_}
 use native.Mathlib.Omega.{arith}
@@ -23,11 +24,29 @@ check-numbers-spec =
     Inv-loop μ-loop (λ c κs. search needs)
     (λ c. rw (c .new .ensures) (hearing-first (c .before .before .args .numbers .now)))
     (λ c. search needs) (λ c. search needs) (λ c κs. search needs) (λ c. search needs)
-    (λ c. hearing-refused (c .before .before .before .before .before .before .loop .inv) (omega arith) (c .before .said .given .0 .0) (ap (λ (t : Step). t .said) (sym (c .before .before .before .feed .ensures)) ∙ c .before .said .given .1))
+    (λ c.
+    let fed = c .before .before .before in
+    let head = fed .before .before .before in
+    hearing-refused (head .loop .inv) (omega arith) (c .before .said .given .0 .0)
+    (ap (λ (t : Step). t .said) (sym (fed .feed .ensures)) ∙ c .before .said .given .1))
     (λ c. search needs) (λ c. search needs)
-    (λ c. simp (lt-ltb (c .before .before .before .before .before .before .loop .i + 1) (length (c .before .before .before .before .before .before .before .before .before .args .numbers .now)) (omega arith)) at (hearing-done (c .before .before .before .before .before .before .loop .inv) (omega arith) (ap (λ (t : Step). t .said) (sym (c .before .before .before .feed .ensures)) ∙ c .before .enum-told .given .1)))
-    (λ c. simp (le-ltb (c .before .before .before .before .before .before .loop .i + 1) (length (c .before .before .before .before .before .before .before .before .before .args .numbers .now)) (omega arith)) at (hearing-done (c .before .before .before .before .before .before .loop .inv) (omega arith) (ap (λ (t : Step). t .said) (sym (c .before .before .before .feed .ensures)) ∙ c .before .enum-told .given .1)))
+    (λ c.
+    let fed = c .before .before .before in
+    let head = fed .before .before .before in
+    let numbers = head .before .before .before .args .numbers .now in
+    simp (lt-ltb (head .loop .i + 1) (length numbers) (omega arith)) at
+    (hearing-done (head .loop .inv) (omega arith) (ap (λ (t : Step). t .said) (sym (fed .feed .ensures)) ∙ c .before .enum-told .given .1)))
+    (λ c.
+    let fed = c .before .before .before in
+    let head = fed .before .before .before in
+    let numbers = head .before .before .before .args .numbers .now in
+    simp (le-ltb (head .loop .i + 1) (length numbers) (omega arith)) at
+    (hearing-done (head .loop .inv) (omega arith) (ap (λ (t : Step). t .said) (sym (fed .feed .ensures)) ∙ c .before .enum-told .given .1)))
     (λ c. search needs) (λ c. search needs)
     (λ c. omega arith)
-    (λ c. rw (c .before .before .before .feed .ensures) (hearing-more (c .before .before .before .before .before .before .loop .inv) (omega arith) (ap (λ (t : Step). t .said) (sym (c .before .before .before .feed .ensures)) ∙ c .before .enum-told2 .given .1)))
+    (λ c.
+    let fed = c .before .before .before in
+    let head = fed .before .before .before in
+    rw (fed .feed .ensures)
+    (hearing-more (head .loop .inv) (omega arith) (ap (λ (t : Step). t .said) (sym (fed .feed .ensures)) ∙ c .before .enum-told2 .given .1)))
     (λ c. hearing-cut (c .before .loop .inv) (omega arith)))

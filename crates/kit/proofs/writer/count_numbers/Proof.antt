@@ -1,4 +1,5 @@
--- `count_numbers`: the invariant is Counting. Assumes nothing.
+-- `count_numbers`. The invariant (`Counting`): the count and the numbers that can be read from the place on are together as many as can be read
+-- from the first byte on. Assumes nothing.
 use mathlib.Core.Path.{_≡_, sym, _∙_}
 use Prim.Native.Nat.{_-_}
 use native.Mathlib.Omega.{arith}
@@ -16,10 +17,13 @@ Inv-loop bytes count₀ at₀ count at = Counting bytes count at
 abbrev μ-loop : tie.MeasureT-loop
 μ-loop bytes count₀ at₀ count at = length bytes - at
 
+-- the head of the turn in which a number was read
+abbrev head : tie.After-known-told Inv-loop μ-loop → tie.At-loop Inv-loop μ-loop
+head c = c .before .before .before .before
+
 -- the number that was read
 found : (c : tie.After-known-told Inv-loop μ-loop)
-    → numberAt (c .before .before .before .before .before .before .args .bytes .now) (c .before .before .before .before .loop .at)
-    ≡ Number (c .before .value .given .0 .0) (c .before .value .given .0 .1 .0)
+    → numberAt (head c .before .before .args .bytes .now) (head c .loop .at) ≡ Number (c .before .value .given .0 .0) (c .before .value .given .0 .1 .0)
 found c = sym (c .before .before .before .read-number .ensures) ∙ c .before .value .given .1
 
 pub count-numbers-spec : {M : Type 1} → statement M
@@ -33,6 +37,6 @@ count-numbers-spec =
     (λ c. search needs)
     (λ c. counting-bad (c .before .before .before .loop .inv) (sym (c .before .before .read-number .ensures) ∙ c .enum-told2 .given .1))
     (λ c. search needs)
-    (λ c. omega (arith, counting-less (c .before .before .before .before .loop .inv) (found c)))
-    (λ c. counting-less (c .before .before .before .before .loop .inv) (found c) .1)
-    (λ c. counting-next (c .before .before .before .before .loop .inv) (found c)))
+    (λ c. omega (arith, counting-less (head c .loop .inv) (found c)))
+    (λ c. counting-less (head c .loop .inv) (found c) .1)
+    (λ c. counting-next (head c .loop .inv) (found c)))

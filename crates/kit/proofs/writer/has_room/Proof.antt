@@ -1,4 +1,5 @@
--- `has_room`: the invariant is Measuring. Assumes nothing.
+-- `has_room`. The invariant (`Measuring`): the spellings from number i on have room in what is left exactly if all have room in the whole.
+-- Assumes nothing.
 use Prim.Native.Nat.{_-_}
 use native.Mathlib.Omega.{arith}
 use lib.ListN.{length}
@@ -23,5 +24,7 @@ has-room-spec =
     (λ c. measuring-short (c .before .before .before .before .loop .inv) (omega arith) (rw (← c .before .spelling-length .ensures) (omega arith)))
     (λ c. search needs)
     (λ c. omega arith)
-    (λ c. rw (c .before .spelling-length .ensures) (measuring-next (c .before .before .before .before .loop .inv) (omega arith) (rw (← c .before .spelling-length .ensures) (omega arith))))
+    (λ c.
+    let measured = c .before .spelling-length .ensures in
+    rw measured (measuring-next (c .before .before .before .before .loop .inv) (omega arith) (rw (← measured) (omega arith))))
     (λ c. measured (c .before .loop .inv) (omega arith)))

@@ -1,4 +1,5 @@
--- `put`: the invariant is Putting. Assumes nothing.
+-- `put`. The invariant (`Putting`): the spellings from number i on, stored from the place on, make of the buffer what all the spellings make of the
+-- buffer as it was, and end where they end. Assumes nothing.
 use Prim.Native.Nat.{_-_}
 use native.Mathlib.Omega.{arith}
 use lib.ListN.{length}
@@ -21,9 +22,19 @@ put-spec =
     (λ c. putting-first (c .before .before .args .numbers .now) (c .before .before .args .out .now))
     (λ c. search needs) (λ c. search needs) (λ c κs. search needs) (λ c. search needs) (λ c. search needs)
     (λ c. omega arith)
-    (λ c. putting-next (c .before .before .before .before .before .before .before .before .before .loop .inv) (omega arith) (omega arith) (c .before .before .before .before .before .write-number .ensures) (c .before .next .given .0 .0) (c .before .next .given .1))
+    (λ c.
+    let next = c .before in
+    let wrote = next .before .before .before .before in
+    let head = wrote .before .before .before .before in
+    putting-next (head .loop .inv) (omega arith) (omega arith) (wrote .write-number .ensures) (next .next .given .0 .0) (next .next .given .1))
     (λ c. search needs)
-    (λ c. absurd (putting-room (c .before .before .before .before .before .before .before .before .loop .inv) (omega arith) (omega arith) (c .before .before .before .before .write-number .ensures) (c .enum-told .given .1)))
-    (λ c. absurd (putting-room (c .before .before .before .before .before .before .before .before .loop .inv) (omega arith) (omega arith) (c .before .before .before .before .write-number .ensures) (c .enum-told .given .1)))
+    (λ c.
+    let wrote = c .before .before .before .before in
+    let head = wrote .before .before .before .before in
+    absurd (putting-room (head .loop .inv) (omega arith) (omega arith) (wrote .write-number .ensures) (c .enum-told .given .1)))
+    (λ c.
+    let wrote = c .before .before .before .before in
+    let head = wrote .before .before .before .before in
+    absurd (putting-room (head .loop .inv) (omega arith) (omega arith) (wrote .write-number .ensures) (c .enum-told .given .1)))
     (λ c. c .before .loop .inv .long)
     (λ c. putting-last (c .before .loop .inv) (omega arith)))

@@ -12,8 +12,31 @@ read-kit-spec =
     tie.close
     (tie.spec
     (λ c κs. search needs) (λ c κs. search needs)
-    (λ c. read-refused (c .before .before .before .before .before .args .bytes .now) (c .before .before .before .before .before .args .numbers .now) (c .before .before .check .result) (c .before .before .check .ensures) (sym (c .before .is-accepted .ensures) ∙ not-true (c .before .is-accepted .result) (c .if1 .taken)))
+    (λ c.
+    let asked = c .before in
+    let judged = asked .before in
+    let a = judged .before .before .before .args in
+    read-refused (a .bytes .now) (a .numbers .now) (judged .check .result) (judged .check .ensures)
+    (sym (asked .is-accepted .ensures) ∙ not-true (asked .is-accepted .result) (c .if1 .taken)))
     (λ c κs. search needs)
-    (λ c. read-no-room (c .before .before .before .before .before .before .before .args .bytes .now) (c .before .before .before .before .before .before .before .args .numbers .now) (c .before .before .before .before .check .result) (c .before .before .before .before .check .ensures) (sym (c .before .before .before .is-accepted .ensures) ∙ not-false (c .before .before .before .is-accepted .result) (c .before .before .if1 .left)) (c .before .count-numbers .result) (c .before .count-numbers .ensures) (omega arith))
+    (λ c.
+    let counted = c .before in
+    let good = counted .before in
+    let asked = good .before in
+    let judged = asked .before in
+    let a = judged .before .before .before .args in
+    let accepted = sym (asked .is-accepted .ensures) ∙ not-false (asked .is-accepted .result) (good .if1 .left) in
+    read-no-room (a .bytes .now) (a .numbers .now) (judged .check .result) (judged .check .ensures) accepted
+    (counted .count-numbers .result) (counted .count-numbers .ensures) (omega arith))
     (λ c κs. search needs) (λ c. search needs)
-    (λ c. read-all (c .before .before .before .before .before .before .before .before .before .before .before .args .bytes .now) (c .before .before .before .before .before .before .before .before .before .before .before .args .numbers .now) (c .before .before .before .before .before .before .before .before .check .result) (c .before .before .before .before .before .before .before .before .check .ensures) (sym (c .before .before .before .before .before .before .before .is-accepted .ensures) ∙ not-false (c .before .before .before .before .before .before .before .is-accepted .result) (c .before .before .before .before .before .before .if1 .left)) (c .before .before .before .before .before .count-numbers .result) (c .before .before .before .before .before .count-numbers .ensures) (omega arith) (c .before .before .take-into .last .1 .1 .1 .0) (c .before .before .take-into .result) (c .before .before .take-into .ensures)))
+    (λ c.
+    let taken = c .before .before in
+    let counted = taken .before .before .before in
+    let good = counted .before in
+    let asked = good .before in
+    let judged = asked .before in
+    let a = judged .before .before .before .args in
+    let accepted = sym (asked .is-accepted .ensures) ∙ not-false (asked .is-accepted .result) (good .if1 .left) in
+    let t = taken .take-into in
+    read-all (a .bytes .now) (a .numbers .now) (judged .check .result) (judged .check .ensures) accepted
+    (counted .count-numbers .result) (counted .count-numbers .ensures) (omega arith) (t .last .1 .1 .1 .0) (t .result) (t .ensures)))

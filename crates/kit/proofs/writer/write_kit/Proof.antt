@@ -13,9 +13,38 @@ write-kit-spec =
     tie.close
     (tie.spec
     (λ c κs. search needs) (λ c κs. search needs)
-    (λ c. written-refused (c .before .before .before .before .before .args .numbers .now) (c .before .before .before .before .before .args .out .now) (c .before .before .check-numbers .result) (c .before .before .check-numbers .ensures) (sym (c .before .is-accepted .ensures) ∙ not-true (c .before .is-accepted .result) (c .if1 .taken)))
+    (λ c.
+    let asked = c .before in
+    let judged = asked .before in
+    let a = judged .before .before .before .args in
+    written-refused (a .numbers .now) (a .out .now) (judged .check-numbers .result) (judged .check-numbers .ensures)
+    (sym (asked .is-accepted .ensures) ∙ not-true (asked .is-accepted .result) (c .if1 .taken)))
     (λ c κs. search needs)
-    (λ c. written-no-room (c .before .before .before .before .before .before .before .args .numbers .now) (c .before .before .before .before .before .before .before .args .out .now) (c .before .before .before .before .check-numbers .result) (c .before .before .before .before .check-numbers .ensures) (sym (c .before .before .before .is-accepted .ensures) ∙ not-false (c .before .before .before .is-accepted .result) (c .before .before .if1 .left)) (sym (c .before .has-room .ensures) ∙ not-true (c .before .has-room .result) (c .if2 .taken)))
-    (λ c κs. leb-true (length (spellings (c .before .before .before .before .before .before .before .before .args .numbers .now))) (length (c .before .before .before .before .before .before .before .before .args .out .now)) (sym (c .before .before .has-room .ensures) ∙ not-false (c .before .before .has-room .result) (c .before .if2 .left)))
+    (λ c.
+    let measured = c .before in
+    let good = measured .before in
+    let asked = good .before in
+    let judged = asked .before in
+    let a = judged .before .before .before .args in
+    let accepted = sym (asked .is-accepted .ensures) ∙ not-false (asked .is-accepted .result) (good .if1 .left) in
+    written-no-room (a .numbers .now) (a .out .now) (judged .check-numbers .result) (judged .check-numbers .ensures) accepted
+    (sym (measured .has-room .ensures) ∙ not-true (measured .has-room .result) (c .if2 .taken)))
+    (λ c κs.
+    let measured = c .before .before in
+    let judged = measured .before .before .before in
+    let a = judged .before .before .before .args in
+    leb-true (length (spellings (a .numbers .now))) (length (a .out .now))
+    (sym (measured .has-room .ensures) ∙ not-false (measured .has-room .result) (c .before .if2 .left)))
     (λ c. search needs)
-    (λ c. written-all (c .before .before .before .before .before .before .before .before .before .before .before .args .numbers .now) (c .before .before .before .before .before .before .before .before .before .before .before .args .out .now) (c .before .before .before .before .before .before .before .before .check-numbers .result) (c .before .before .before .before .before .before .before .before .check-numbers .ensures) (sym (c .before .before .before .before .before .before .before .is-accepted .ensures) ∙ not-false (c .before .before .before .before .before .before .before .is-accepted .result) (c .before .before .before .before .before .before .if1 .left)) (sym (c .before .before .before .before .before .has-room .ensures) ∙ not-false (c .before .before .before .before .before .has-room .result) (c .before .before .before .before .if2 .left)) (c .before .before .put .last .1 .0) (c .before .before .put .result) (c .before .before .put .ensures)))
+    (λ c.
+    let put = c .before .before in
+    let fits = put .before .before in
+    let measured = fits .before in
+    let good = measured .before in
+    let asked = good .before in
+    let judged = asked .before in
+    let a = judged .before .before .before .args in
+    let accepted = sym (asked .is-accepted .ensures) ∙ not-false (asked .is-accepted .result) (good .if1 .left) in
+    let room = sym (measured .has-room .ensures) ∙ not-false (measured .has-room .result) (fits .if2 .left) in
+    written-all (a .numbers .now) (a .out .now) (judged .check-numbers .result) (judged .check-numbers .ensures) accepted room
+    (put .put .last .1 .0) (put .put .result) (put .put .ensures)))

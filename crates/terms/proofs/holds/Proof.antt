@@ -1,9 +1,9 @@
 -- `holds`: the places from i on, the newer ones, do not hold it. Assumes nothing.
 use mathlib.Core.Logic.{⊎-elim}
 use borrow.Author.Needs.{needs}
-use Rattle.replica.proofs.Turns.{Searching, behind-newest, none-left, found, not-here}
-use Rattle.replica.proofs.holds.Statement.{statement}
-use Rattle.replica.proofs.holds.Tie as tie
+use Rattle.terms.proofs.Searching.{Searching, behind-newest, none-left, found, not-here}
+use Rattle.terms.proofs.holds.Statement.{statement}
+use Rattle.terms.proofs.holds.Tie as tie
 
 abbrev Inv-loop : tie.InvT-loop
 Inv-loop list n request all i₀ i = Searching list n request i

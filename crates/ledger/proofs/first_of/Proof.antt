@@ -1,8 +1,8 @@
 -- `first_of` meets its contract. Assumes nothing.
 use borrow.Author.Needs.{needs}
-use Rattle.validity.specs.ValidityLaws.{first-number}
-use Rattle.validity.proofs.first_of.Statement.{statement}
-use Rattle.validity.proofs.first_of.Tie as tie
+use Rattle.ledger.specs.ContentLaws.{first-number}
+use Rattle.ledger.proofs.first_of.Statement.{statement}
+use Rattle.ledger.proofs.first_of.Tie as tie
 
 pub first-of-spec : {M : Type 1} → statement M
 first-of-spec =

@@ -1,7 +1,7 @@
 -- `is_content` meets its contract. Assumes nothing.
 use borrow.Author.Needs.{needs}
-use Rattle.validity.proofs.is_content.Statement.{statement}
-use Rattle.validity.proofs.is_content.Tie as tie
+use Rattle.ledger.proofs.is_content.Statement.{statement}
+use Rattle.ledger.proofs.is_content.Tie as tie
 
 pub is-content-spec : {M : Type 1} → statement M
 is-content-spec =

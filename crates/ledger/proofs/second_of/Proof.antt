@@ -1,8 +1,8 @@
 -- `second_of` meets its contract. Assumes nothing.
 use borrow.Author.Needs.{needs}
-use Rattle.validity.specs.ValidityLaws.{second-number}
-use Rattle.validity.proofs.second_of.Statement.{statement}
-use Rattle.validity.proofs.second_of.Tie as tie
+use Rattle.ledger.specs.ContentLaws.{second-number}
+use Rattle.ledger.proofs.second_of.Statement.{statement}
+use Rattle.ledger.proofs.second_of.Tie as tie
 
 pub second-of-spec : {M : Type 1} → statement M
 second-of-spec =

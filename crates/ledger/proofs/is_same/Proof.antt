@@ -1,9 +1,9 @@
 -- `is_same` meets its contract. Assumes nothing.
 use borrow.Author.Tests.{eq-eqb, ne-eqb}
 use borrow.Author.Needs.{needs}
-use Rattle.validity.specs.ValidityLaws.{same-numbers}
-use Rattle.validity.proofs.is_same.Statement.{statement}
-use Rattle.validity.proofs.is_same.Tie as tie
+use Rattle.ledger.specs.ContentLaws.{same-numbers}
+use Rattle.ledger.proofs.is_same.Statement.{statement}
+use Rattle.ledger.proofs.is_same.Tie as tie
 
 pub is-same-spec : {M : Type 1} → statement M
 is-same-spec =
