@@ -47,7 +47,9 @@ module _ (kit : Kit) (r : Room) (b : Bounds kit r) where
   unfolding replicaLine replicaSaid
   replica-said x below = rw (settled-shown kit r b x below, mark-said (r .replica x), condition-said (r .replica x))
 
-  pub replicas-said : replicaLines (layReplicas (r .replica)) (layRoles kit) (layTable kit) (layHeads (r .histories)) (layLists (r .histories)) (layIssued (r .counter))
+  pub replicas-said
+      : replicaLines (layReplicas (r .replica)) (layRoles kit) (layTable kit) (layHeads (r .histories)) (layLists (r .histories))
+      (layIssued (r .counter))
       ≡ linesFrom 0 (length (kit .table)) (replicaSaid kit r)
   unfolding replicaLines layRoles
   replicas-said =

@@ -9,6 +9,19 @@ pub fresh-replicas-spec : {M : Type 1} → statement M
 unfolding freshReplicas tab
 fresh-replicas-spec =
     tie.close
-    (tie.spec (λ c. search needs) (λ c κs. search needs) (λ c. search needs) (λ c κs. search needs) (λ c. search needs) (λ c κs. search needs) (λ c. search needs) (λ c κs. search needs) (λ c. search needs) (λ c κs. search needs) (λ c. search needs) (λ c κs. search needs) (λ c. search needs) (λ c κs. search needs)
-    (λ c. rw (c .before .before .before .before .before .before .before .before .before .before .before .before .fresh-replica .ensures, c .before .before .before .before .before .before .before .before .before .before .fresh-replica2 .ensures, c .before .before .before .before .before .before .before .before .fresh-replica3 .ensures, c .before .before .before .before .before .before .fresh-replica4 .ensures)
-    (rw (c .before .before .before .before .fresh-replica5 .ensures, c .before .before .fresh-replica6 .ensures, c .fresh-replica7 .ensures))))
+    (tie.spec (λ c. search needs) (λ c κs. search needs) (λ c. search needs) (λ c κs. search needs) (λ c. search needs) (λ c κs. search needs)
+    (λ c. search needs) (λ c κs. search needs) (λ c. search needs) (λ c κs. search needs) (λ c. search needs) (λ c κs. search needs)
+    (λ c. search needs) (λ c κs. search needs)
+    (λ c. let after-fresh-replica6 = c .before .before in
+    let after-fresh-replica5 = after-fresh-replica6 .before .before in
+    let after-fresh-replica4 = after-fresh-replica5 .before .before in
+    let after-fresh-replica3 = after-fresh-replica4 .before .before in
+    let after-fresh-replica2 = after-fresh-replica3 .before .before in
+    let after-fresh-replica = after-fresh-replica2 .before .before in
+    rw (
+      after-fresh-replica .fresh-replica .ensures,
+      after-fresh-replica2 .fresh-replica2 .ensures,
+      after-fresh-replica3 .fresh-replica3 .ensures,
+      after-fresh-replica4 .fresh-replica4 .ensures,
+    )
+    (rw (after-fresh-replica5 .fresh-replica5 .ensures, after-fresh-replica6 .fresh-replica6 .ensures, c .fresh-replica7 .ensures))))
