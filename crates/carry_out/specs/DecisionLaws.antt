@@ -159,7 +159,8 @@ module _ (kit : Kit) (r : Room) (known : ℕ) (b : Bounds kit r) (me : ℕ) (bel
       rw (total-laid (r .counter) me ag below (omega arith), accept-laid p sender ag value sb (omega arith), settled p me own, settled q me own)
       (settled-as r known me (settledCount kit me p own) (settledCount kit me q own) q below (b .replicas me .noted-max) (own-room up correct))
 
-  pub done-prepare : (sender value request : ℕ) (list : List ℕ) → sender < 7 → isFaulty (p .condition) ≡ false → holds request (r .submitted) ≡ true → holds request (p .noted) ≡ false
+  pub done-prepare : (sender value request : ℕ) (list : List ℕ) → sender < 7 → isFaulty (p .condition) ≡ false
+      → holds request (r .submitted) ≡ true → holds request (p .noted) ≡ false
       → Done (Decision.Act (Act.Prepare sender value request)) list
   unfolding doneOn enterOn applyOn actOn countedOn carryOut acted layRoom layDesk layRoles afterPrepare prepareOn issue note accept
   done-prepare sender value request list sb correct is new =
@@ -183,7 +184,8 @@ module _ (kit : Kit) (r : Room) (known : ℕ) (b : Bounds kit r) (me : ℕ) (bel
       rw (pair-laid kit table-fits leader-below p sender value me sb pairs-max)
       (acted-laid r known (r .counter) me (withMark q (markOfPair (p .pairMarks) (settledCount kit me q 0))))
 
-  pub done-new-pair : (sender value request mark : ℕ) (list : List ℕ) → sender < 7 → holds request (r .submitted) ≡ true → holds request (p .noted) ≡ false → Done (Decision.Act (Act.NewPair sender value request mark)) list
+  pub done-new-pair : (sender value request mark : ℕ) (list : List ℕ) → sender < 7
+      → holds request (r .submitted) ≡ true → holds request (p .noted) ≡ false → Done (Decision.Act (Act.NewPair sender value request mark)) list
   unfolding doneOn enterOn applyOn actOn countedOn carryOut acted layRoom layRoles afterUpdate accept notePair withReplica
   done-new-pair sender value request mark list sb is new =
       let fits : length (p .noted) < 64 = noting-fits b me request is new in

@@ -23,9 +23,11 @@ use Rattle.room.specs.Layout.{layRoom, layRoles, layTable}
 use Rattle.room.specs.Bounds.{Bounds}
 use Rattle.room.specs.GoodLaws.{concerned-below}
 use Rattle.carry_out.specs.Done.{doneOn}
-use Rattle.carry_out.specs.DecisionLaws.{Done, done-refuse, done-idle, done-issue, done-commit, done-prepare, done-known-pair, done-new-pair, done-switch, done-hand, done-panic, done-submit, done-file, done-build}
+use Rattle.carry_out.specs.DecisionLaws.{Done, done-refuse, done-idle, done-issue, done-commit, done-prepare, done-known-pair, done-new-pair}
+use Rattle.carry_out.specs.DecisionLaws.{done-switch, done-hand, done-panic, done-submit, done-file, done-build}
 
-module _ (kit : Kit) (r : Room) (known : ℕ) (b : Bounds kit r) (list : List ℕ) (e : Event) (good : GoodEvent (replicas (kit .f)) e list) (x : ℕ) (below : x < 7) where
+module _ (kit : Kit) (r : Room) (known : ℕ) (b : Bounds kit r) (list : List ℕ) (e : Event) (good : GoodEvent (replicas (kit .f)) e list)
+    (x : ℕ) (below : x < 7) where
   sender-below : {sender name value : ℕ} → Delivered kit r e x sender name value → sender < 7
   sender-below t = let g = subst (λ (event : Event). GoodEvent (replicas (kit .f)) event list) (t .event) good in omega (arith, g .0, b .good .f-high)
 

@@ -11,12 +11,13 @@ use Rattle.terms.specs.declared.Event.{Event}
 use Rattle.terms.specs.declared.Event.the-variants as Event
 use Rattle.terms.specs.declared.Decision.{Decision}
 use Rattle.terms.specs.declared.Decision.the-variants.{Idle}
-use Rattle.rules.specs.Table.{ag, up, activesFrom, firstBut}
+use Rattle.rules.specs.Table.{ag, up}
 use Rattle.rules.specs.Reading.{entryAt}
 use Rattle.rules.specs.Sight.{Sight}
 use Rattle.rules.specs.Submit.{decideSubmit, decideIssue, decideFile}
 use Rattle.rules.specs.Deliver.{decideDeliver}
 use Rattle.rules.specs.Switching.{Handing, decidePanic, decideBuild, decideHand}
+use Rattle.rules.specs.Decide.{concernedBy}
 use Rattle.ledger.specs.Ledger.{Places, totalOf, contentOn}
 use Rattle.replica.specs.Record.{acceptedIn, activeIn, settledIn}
 use Rattle.room.specs.declared.Desk.{Desk}
@@ -26,23 +27,12 @@ use Rattle.validity.specs.Validity.{isValidOn}
 
 -- ---- who is concerned
 
--- the active replica of lowest number apart from the leader
-unfoldable pub switchLeaderOf : List ℕ → ℕ → ℕ
-switchLeaderOf table leader = firstBut leader (activesFrom table 0)
-
 -- one of the seven records; 0 where there is none of that number
 unfoldable pub belowSeven : ℕ → ℕ
 belowSeven n = pick (leb 7 n) 0 n
 
 unfoldable pub concernedIn : Event → Roles → ℕ
-concernedIn (Event.Submit request) roles = belowSeven (roles .leader)
-concernedIn (Event.Issue replica name content) roles = belowSeven replica
-concernedIn (Event.Deliver sender name value to) roles = belowSeven to
-concernedIn (Event.Hand p q to) roles = belowSeven to
-concernedIn (Event.Panic to) roles = belowSeven to
-concernedIn Event.Idle roles = 0
-concernedIn Event.Build roles = belowSeven (roles .switcher)
-concernedIn (Event.File j k) roles = 0
+concernedIn event roles = belowSeven (concernedBy (roles .leader) (roles .switcher) event)
 
 -- ---- what the rules ask, answered by the parts
 

@@ -15,7 +15,7 @@ use Rattle.terms.specs.declared.Content.{Content}
 use Rattle.terms.specs.declared.Event.{Event}
 use Rattle.terms.specs.declared.Event.the-variants as Event
 use Rattle.terms.specs.declared.Decision.{Decision}
-use Rattle.rules.specs.Table.{ag, up, isActive, actives, switchLeader}
+use Rattle.rules.specs.Table.{ag, up, isActive, switchLeader}
 use Rattle.rules.specs.Room.{Room}
 use Rattle.rules.specs.Reading.{entryAt, agTotal}
 use Rattle.rules.specs.Sight.{sightOf}
@@ -25,13 +25,13 @@ use Rattle.ledger.specs.LedgerLaws.{total-laid}
 use Rattle.replica.specs.declared.Replica.{Replica}
 use Rattle.replica.specs.Record.{activeIn}
 use Rattle.replica.specs.RecordLayout.{numberOr0, layReplica}
-use Rattle.replica.specs.RecordLaws.{accepted-laid, active-laid, actives-laid, settled-laid}
+use Rattle.replica.specs.RecordLaws.{accepted-laid, active-laid, settled-laid}
 use Rattle.room.specs.declared.Roles.{Roles}
 use Rattle.room.specs.declared.Standing.{Standing}
 use Rattle.room.specs.Layout.{Parts, layRoles, layTable, layDesk, layRoom}
 use Rattle.room.specs.Bounds.{Bounds}
 use Rattle.room.specs.GoodLaws.{concerned-below}
-use Rattle.decide.specs.Decided.{switchLeaderOf, belowSeven, concernedIn, heldIn, sightIn, decideOn}
+use Rattle.decide.specs.Decided.{belowSeven, concernedIn, heldIn, sightIn, decideOn}
 use Rattle.decide.specs.ValidLaws.{content-laid, leader-seven, switcher-seven, table-seven, valid-laid}
 
 -- ---- an event decided on the player's parts
@@ -47,24 +47,13 @@ decidedOn roles table parts p event =
 
 -- ---- who is concerned
 
-pub switch-leader-laid : (kit : Kit) → switchLeaderOf (layTable kit) (kit .leader) ≡ switchLeader kit
-unfolding switchLeaderOf layTable switchLeader actives
-switch-leader-laid kit = rw (actives-laid (kit .table))
-
 below-is : (n : ℕ) → n < 7 → belowSeven n ≡ n
 unfolding belowSeven
 below-is n h = rw (lt-leb 7 n h)
 
 pub concerned-laid : (kit : Kit) (event : Event) (list : List ℕ) → GoodKit kit → GoodEvent (replicas (kit .f)) event list → concernedIn event (layRoles kit) ≡ concerned kit event
 unfolding concernedIn layRoles concerned
-concerned-laid kit (Event.Submit request) list k g = below-is (kit .leader) (concerned-below kit (Event.Submit request) list k g)
-concerned-laid kit (Event.Issue replica name content) list k g = below-is replica (concerned-below kit (Event.Issue replica name content) list k g)
-concerned-laid kit (Event.Deliver sender name value to) list k g = below-is to (concerned-below kit (Event.Deliver sender name value to) list k g)
-concerned-laid kit (Event.Hand p q to) list k g = below-is to (concerned-below kit (Event.Hand p q to) list k g)
-concerned-laid kit (Event.Panic to) list k g = below-is to (concerned-below kit (Event.Panic to) list k g)
-concerned-laid kit Event.Idle list k g = refl
-concerned-laid kit Event.Build list k g = below-is (switchLeader kit) (concerned-below kit Event.Build list k g)
-concerned-laid kit (Event.File j m) list k g = refl
+concerned-laid kit event list k g = below-is (concerned kit event) (concerned-below kit event list k g)
 
 -- ---- the parts are asked what the room is asked
 
@@ -118,7 +107,8 @@ module _ (kit : Kit) (r : Room) (b : Bounds kit r) (known : ℕ) where
   unfolding decidedOn decideOn layRoom layDesk decide
   file-laid x j k = refl
 
-  deliver-laid : (sender name value to : ℕ) → sender < 7 → name < 3 → decided to (Event.Deliver sender name value to) ≡ decide kit r (Event.Deliver sender name value to)
+  deliver-laid : (sender name value to : ℕ) → sender < 7 → name < 3
+      → decided to (Event.Deliver sender name value to) ≡ decide kit r (Event.Deliver sender name value to)
   unfolding decidedOn decideOn layRoom layDesk layRoles decide
   deliver-laid sender name value to hs hn =
       rw (content-laid kit r b sender name value hs hn, sight-laid kit r to, actives-in kit, accepted-laid (r .replica to) sender name hs hn)
@@ -127,15 +117,17 @@ module _ (kit : Kit) (r : Room) (b : Bounds kit r) (known : ℕ) where
   unfolding decidedOn decideOn layRoom layDesk layRoles layReplica decide
   hand-laid p q to =
       let s = switchLeader kit in
-      let valid = fun-ext (λ h. valid-laid kit r b h p q) in
-      rw (content-laid kit r b s ag p (switcher-seven kit r b) (omega arith), content-laid kit r b s up q (switcher-seven kit r b) (omega arith), take-pad 64 (r .submitted), valid, held-laid (r .replica to .held))
+      let first = content-laid kit r b s ag p (switcher-seven kit r b) (omega arith) in
+      let second = content-laid kit r b s up q (switcher-seven kit r b) (omega arith) in
+      rw (first, second, take-pad 64 (r .submitted), fun-ext (λ h. valid-laid kit r b h p q), held-laid (r .replica to .held))
 
   build-laid : decided (switchLeader kit) Event.Build ≡ decide kit r Event.Build
   unfolding decidedOn decideOn layRoom layRoles layTable layReplica decide built
   build-laid =
       let s = switchLeader kit in
       let p = r .replica s in
-      rw (total-laid (r .counter) s ag (switcher-seven kit r b) (omega arith), settled-laid kit p (table-seven kit r b) s (agTotal r s) (leader-seven kit r b), held-laid (p .held))
+      let total = total-laid (r .counter) s ag (switcher-seven kit r b) (omega arith) in
+      rw (total, settled-laid kit p (table-seven kit r b) s (agTotal r s) (leader-seven kit r b), held-laid (p .held))
 
 -- the law: a good event, decided with the record of the replica concerned, is decided as the rules decide it
 pub decided-laid : (kit : Kit) (r : Room) (known : ℕ) (event : Event) (list : List ℕ) → Bounds kit r → GoodEvent (replicas (kit .f)) event list

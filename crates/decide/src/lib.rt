@@ -15,7 +15,7 @@ ghost use Rattle.rules.specs.Deliver.{decidePrepare, decideCommit, decidePair, 
 ghost use Rattle.rules.specs.Switching.{decidePanic, decideBuild, decideHold, decideHand};
 ghost use Rattle.ledger.specs.Ledger.{totalOf, contentOn};
 ghost use Rattle.replica.specs.Record.{acceptedIn, activeIn, settledIn};
-ghost use Rattle.decide.specs.Decided.{switchLeaderOf, belowSeven, concernedIn, isNewIn, heldIn, sightIn, validIn, handingIn, decideOn};
+ghost use Rattle.decide.specs.Decided.{belowSeven, concernedIn, isNewIn, heldIn, sightIn, validIn, handingIn, decideOn};
 use ledger::Issued;
 use ledger::Ledger;
 use room::Desk;
@@ -94,25 +94,6 @@ fn is_faulty(condition: Condition) -> bool
         Condition::Closed => false,
         Condition::Faulty => true,
     }
-}
-
-// The active replica of lowest number apart from the leader.
-pub fn switch_leader(table: &Table, leader: usize) -> usize
-    ensures { λ r. ⌜ r ≡ switchLeaderOf (now (table .entry)) leader ⌝ }
-{
-    let entries: &[u32] = table;
-    let mut x: usize = 0;
-    while x < entries.len() {
-        if terms::marks_active(entries[x]) {
-            if x != leader {
-                return x;
-            }
-            x = x + 1;
-        } else {
-            x = x + 1;
-        }
-    }
-    0
 }
 
 // One of the seven records.

@@ -11,7 +11,7 @@ use lib.ListN.{length, drop, getD}
 use Rattle.terms.specs.Limits.{replicas, faultsMax, requestsMax}
 use Rattle.terms.specs.Lists.{nth}
 use Rattle.terms.specs.ListLaws.{no-way}
-use Rattle.terms.specs.Kit.{Kit, Entry, GoodEvent, kitNumbers, entryNumbers, entriesNumbers, eventNumbers}
+use Rattle.terms.specs.Kit.{Kit, Entry, GoodKit, GoodEvent, kitNumbers, entryNumbers, entriesNumbers, eventNumbers}
 use Rattle.terms.specs.Numbers.{kindOf, kindNumber, contentOf}
 use Rattle.terms.specs.declared.Content.the-variants as Content
 use Rattle.terms.specs.declared.Event.{Event}
@@ -229,14 +229,14 @@ drop-nth [] i e h = no-way (cc)
 drop-nth (x ∷ es) zero e h = let z : x ≡ e = cc in rw z
 drop-nth (x ∷ es) (suc i) e h = drop-nth es i e h
 
-pub next-cursor : (bytes : List ℕ) (kit : Kit) (i at : ℕ) (e : Entry) → Spells bytes kit → CursorAt bytes kit i at → nth (kit .events) i ≡ some e
+pub next-cursor : (bytes : List ℕ) (kit : Kit) (i at : ℕ) (e : Entry) → GoodKit kit → CursorAt bytes kit i at → nth (kit .events) i ≡ some e
     → EntryRead bytes kit i at e
 unfolding nextIn listAfter
-next-cursor bytes kit i at e s c is =
+next-cursor bytes kit i at e g c is =
     let later = entriesNumbers (drop (suc i) (kit .events)) in
     let all : Stands bytes at (entriesNumbers (drop i (kit .events))) = record { rest = c .rest; words = c .words } in
     let stands : Stands bytes at (entryNumbers e ++ later) = rw (drop-nth (kit .events) i e is) at all in
-    let good = s .good .events-good i e is in
+    let good = g .events-good i e is in
     let h = entry-here bytes at e later (event-parts (replicas (kit .f)) (e .event) (e .requests) (good .event)) stands in
     record {
       gap = h .gap;

@@ -17,7 +17,8 @@ use Rattle.rules.specs.laws.Instead.{same-settings}
 use Rattle.rules.specs.laws.Exchange.{Exchanged, PlaysExchanged, plays-exchanged, exchanged-count}
 use Rattle.play_lines.specs.Lines.{eventLine, linesFrom}
 use Rattle.play_lines.specs.LinesLaws.{lines-ext}
-use Rattle.play_lines.specs.PlayText.{numberSaid, eventSaid, textAfter, playText}
+use Rattle.room.specs.Said.{numberSaid}
+use Rattle.play_lines.specs.PlayText.{eventSaid, textAfter, playText}
 use Rattle.play_lines.specs.Without.{endSaid, end-same}
 
 -- places n and n+1 exchanged, every other place as it is

@@ -1,23 +1,16 @@
 -- The printed play as the rules say it: for each event its number, the clock after it and its answer; for each replica its number, its
 -- condition, its settled count, its mark and its settled requests; and the late tick. Laws: PlayTextLaws. Assumes nothing.
-use mathlib.Core.Option.{Option, none, some}
 use mathlib.Core.List.{List, _++_}
 use Prim.Native.Nat.{ℕ, suc}
 use lib.ListN.{length}
 use Rattle.terms.specs.Lists.{pick, isSome}
 use Rattle.terms.specs.Kit.{Kit}
-use Rattle.terms.specs.Numbers.{answerNumber}
-use Rattle.terms.specs.declared.Answer.{Answer}
 use Rattle.rules.specs.Room.{Room}
 use Rattle.rules.specs.Reading.{isFaulty, settled}
 use Rattle.rules.specs.Play.{after, answer}
 use Rattle.replica.specs.RecordLayout.{numberOr0}
+use Rattle.room.specs.Said.{numberSaid}
 use Rattle.play_lines.specs.Lines.{eventLine, settledLine, lateText, linesFrom}
-
--- the paper's number of an answer; past the last event there is none
-abbrev pub numberSaid : Option Answer → ℕ
-numberSaid none = 0
-numberSaid (some a) = answerNumber a
 
 -- the line of the event that comes after the first k
 unfoldable pub eventSaid : Kit → ℕ → List ℕ

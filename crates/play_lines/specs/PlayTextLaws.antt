@@ -3,9 +3,9 @@
 use mathlib.Core.Path.{_≡_, refl}
 use mathlib.Core.Bool.{Bool, true, false}
 use mathlib.Core.List.{List}
-use Prim.Native.Nat.{ℕ, suc, _≤_, _<_, min}
+use Prim.Native.Nat.{ℕ, _≤_, _<_, min}
 use native.Mathlib.Omega.{arith}
-use lib.ListN.{length, getD}
+use lib.ListN.{length}
 use Rattle.terms.specs.Lists.{pick}
 use Rattle.terms.specs.Kit.{Kit}
 use Rattle.rules.specs.Room.{Room, freshReplica}
@@ -23,7 +23,8 @@ use Rattle.room.specs.SettledLaws.{settled-shown, shown-laid}
 use Rattle.play_lines.specs.Lines.{linesFrom}
 use Rattle.play_lines.specs.LinesLaws.{lines-ext}
 use Rattle.play_lines.specs.PlayLines.{eventLines, replicaLine, replicaLines, playLines}
-use Rattle.play_lines.specs.PlayText.{numberSaid, eventSaid, replicaSaid, roomSaid, textAfter}
+use Rattle.room.specs.Said.{Says}
+use Rattle.play_lines.specs.PlayText.{eventSaid, replicaSaid, roomSaid, textAfter}
 
 -- ---- the line of a replica
 
@@ -46,7 +47,9 @@ module _ (kit : Kit) (r : Room) (b : Bounds kit r) where
   unfolding replicaLine replicaSaid
   replica-said x below = rw (settled-shown kit r b x below, mark-said (r .replica x), condition-said (r .replica x))
 
-  pub replicas-said : replicaLines (layReplicas (r .replica)) (layRoles kit) (layTable kit) (layHeads (r .histories)) (layLists (r .histories)) (layIssued (r .counter))
+  pub replicas-said
+      : replicaLines (layReplicas (r .replica)) (layRoles kit) (layTable kit) (layHeads (r .histories)) (layLists (r .histories))
+      (layIssued (r .counter))
       ≡ linesFrom 0 (length (kit .table)) (replicaSaid kit r)
   unfolding replicaLines layRoles
   replicas-said =
@@ -54,11 +57,6 @@ module _ (kit : Kit) (r : Room) (b : Bounds kit r) where
       rw m
       (lines-ext (length (kit .table)) 0 _ _
       (λ x h. let below : x < 7 = omega (arith, h, (size-max (b .good))) in rw (replica-laid (r .replica) x _ below) (replica-said x below)))
-
--- clocks and answers of the first n events are those of the rules
-pub record Says (kit : Kit) (n : ℕ) (clocks answers : List ℕ) : Type 0 where
-  pub clock : (k : ℕ) → k < n → getD clocks k 0 ≡ after kit (suc k) .clock
-  pub answer : (k : ℕ) → k < n → getD answers k 0 ≡ numberSaid (answer kit k)
 
 pub events-said : (kit : Kit) (n : ℕ) → n ≤ 4096 → (clocks answers : List ℕ) → Says kit n clocks answers
     → eventLines clocks answers n ≡ linesFrom 0 n (eventSaid kit)

@@ -15,7 +15,8 @@ use Rattle.rules.specs.laws.Instead.{withEvents}
 use Rattle.rules.specs.laws.IdleEdits.{OneIdleLess, PlaysWithout, plays-without, OneEventLess, one-event-less}
 use Rattle.play_lines.specs.Lines.{eventLine, linesFrom}
 use Rattle.play_lines.specs.LinesLaws.{lines-ext, lines-at, lines-higher}
-use Rattle.play_lines.specs.PlayText.{numberSaid, eventSaid, replicaSaid, roomSaid, textAfter, playText}
+use Rattle.room.specs.Said.{numberSaid}
+use Rattle.play_lines.specs.PlayText.{eventSaid, replicaSaid, roomSaid, textAfter, playText}
 
 -- the line of the event at place k under the number k instead of k+1
 unfoldable pub lowered : Kit → ℕ → List ℕ

@@ -20,17 +20,14 @@ use Rattle.rules.specs.Play.{after, step, answer}
 use Rattle.rules.specs.laws.Growth.{after-suc}
 use Rattle.rules.specs.laws.Refused.{Ticked, tick-ticked, refused-is-ticked}
 use Rattle.rules.specs.agreement.Theorem.{SettledListsAgree, settled-lists-agree}
-use Rattle.room.specs.Layout.{layRoles, layTable}
 use Rattle.number.specs.Number.{Bytes}
-use Rattle.kit.specs.Reader.{checkOf, kitOf}
+use Rattle.kit.specs.Reader.{checkOf, kitOf, settingsIn}
 use Rattle.kit.specs.Spelling.{Spells}
 use Rattle.kit.specs.Cursor.{accepted-spells}
-use Rattle.player.specs.Turn.{turnsFrom}
-use Rattle.player.specs.Shows.{Shows}
-use Rattle.player.specs.Plays.{player-shows}
+use Rattle.player.specs.OpeningLaws.{spells-opens}
+use Rattle.player.specs.Plays.{PlaysAs, playedFrom, plays-first}
 use Rattle.play_lines.specs.Lines.{kitLine}
 use Rattle.play_lines.specs.PlayText.{playText}
-use Rattle.played.specs.FreshLaws.{first-stage, is-fresh}
 use Rattle.play_text.specs.Printed.{printedText}
 use Rattle.play_text.specs.PlayTheorem.{play-printed}
 use Rattle.play_text.specs.Edits.{bytesOf, EditorMay, editor-may}
@@ -75,9 +72,8 @@ pub record Demands (bytes : List ℕ) (kit : Kit) : Type 0 where
   -- that is, it changes nothing but the clock and the late tick
   pub refused-only : (n : ℕ) (e : Entry) → nth (kit .events) n ≡ some e → (step kit (after kit n) e .answer ≡ Answer.Taken → ⊥)
       → Ticked (after kit n) (e .gap) (after kit (suc n))
-  -- demand 2: after each event the loop's parts, clocks and answers are the rules'
-  pub shows : (n : ℕ) → n ≤ length (kit .events)
-      → Shows bytes kit n (turnsFrom bytes (layRoles kit) (layTable kit) 0 n (first-stage bytes kit spells))
+  -- demand 2: after each event the parts, clocks and answers that `player::play` leaves are the rules'
+  pub plays : (n : ℕ) → n ≤ length (kit .events) → PlaysAs kit n (playedFrom bytes (settingsIn bytes) n)
   -- and what is printed is the play that the rules say
   pub prints : printedText bytes ≡ playText kit
   -- demand 3
@@ -106,7 +102,7 @@ demands bytes are e =
           record { said = step kit (after kit n) (at .0) .answer; is = rw (at .1); number = event-number (step kit (after kit n) (at .0) .answer) };
       refused = refused-ticks kit;
       refused-only = λ n f is untaken. rw (refused-ticks kit n f is untaken) (tick-ticked kit (after kit n) (f .gap));
-      shows = λ n fits. player-shows bytes kit s n fits (first-stage bytes kit s) (is-fresh bytes kit s);
+      plays = plays-first bytes kit (s .good) (settingsIn bytes) (spells-opens bytes kit s);
       prints = play-printed bytes kit s;
       agree = settled-lists-agree kit (s .good);
       editor = editor-may kit spelled;

@@ -1,4 +1,2 @@
-pub mod Fresh
-pub mod FreshLaws
 pub mod Views
 pub mod ViewsLaws

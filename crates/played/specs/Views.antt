@@ -4,14 +4,15 @@ use Prim.Native.Nat.{ℕ}
 use Rattle.terms.specs.Kit.{Kit}
 use Rattle.room.specs.declared.Roles.{Roles}
 use Rattle.kit.specs.declared.Settings.{Settings}
+use Rattle.player.specs.Opening.{rolesIn}
 use Rattle.player.specs.Turn.{Left}
+use Rattle.player.specs.Plays.{playedFrom}
 use Rattle.play_lines.specs.PlayLines.{playLines}
 use Rattle.play_lines.specs.PlayText.{textAfter}
 use Rattle.room_lines.specs.RoomLines.{roomLines}
 use Rattle.room_lines.specs.RoomText.{roomText}
 use Rattle.played.specs.declared.View.{View}
 use Rattle.played.specs.declared.View.the-variants.{Play, Room}
-use Rattle.played.specs.Fresh.{rolesIn, playedFrom}
 
 -- the lines of what the play of n events came to
 abbrev pub viewLines : View → Roles → List ℕ → ℕ → Left → List ℕ

@@ -1,3 +1,5 @@
+pub mod Opening
+pub mod OpeningLaws
 pub mod Turn
 pub mod TurnLaws
 pub mod Shows

@@ -38,7 +38,6 @@ use Rattle.room.specs.declared.Desk.{Desk}
 use Rattle.terms.specs.declared.Decision.{Decision}
 use Rattle.terms.specs.declared.Decision.the-variants as Decision
 use Rattle.kit.specs.Reader.{nextIn, listAfter, filedInto}
-use Rattle.kit.specs.Spelling.{Spells}
 use Rattle.kit.specs.Cursor.{CursorAt, EntryRead, next-cursor}
 use Rattle.clock.specs.Clocked.{clockOn}
 use Rattle.clock.specs.Known.{Known}
@@ -54,7 +53,8 @@ use Rattle.player.specs.Turn.{Stage, noReplica, turnOn}
 
 -- what is read beside the event serves as well as its requests padded
 enter-read
-    : (kit : Kit) (r : Room) (event : Event) (x : ℕ) (d : Decision) → Tested kit r event x d → (desk : Desk) (noted : List ℕ) (count : ℕ) (requests before : List ℕ) (n : ℕ) (s : Submissions) (f : Filings)
+    : (kit : Kit) (r : Room) (event : Event) (x : ℕ) (d : Decision) → Tested kit r event x d
+    → (desk : Desk) (noted : List ℕ) (count : ℕ) (requests before : List ℕ) (n : ℕ) (s : Submissions) (f : Filings)
     → enterOn d desk noted count (filedInto event requests before) n s f ≡ enterOn d desk noted count (pad requestsMax requests) n s f
 unfolding enterOn pad
 enter-read kit r event x (Decision.Refuse answer) t desk noted count l b n s f = refl
@@ -91,16 +91,13 @@ stored l n v k w long old new below =
     (λ t. let z = eqb-true k n t in rw z (getD-set-same l n v 0 long ∙ new z))
     (λ t. let ne = eqb-false k n t in getD-set-other l n k v 0 ne ∙ old (omega arith))
 
-module _ (bytes : List ℕ) (kit : Kit) (spells : Spells bytes kit) (n : ℕ) (s : Stage) (e : Entry) (is : nth (kit .events) n ≡ some e) (h : Shows bytes kit n s) where
+module _ (bytes : List ℕ) (kit : Kit) (good : GoodKit kit) (n : ℕ) (s : Stage) (e : Entry) (is : nth (kit .events) n ≡ some e) (h : Shows bytes kit n s) where
   abbrev r : Room
   r = after kit n
 
   -- the room in which the event is decided
   abbrev t : Room
   t = tick kit r (e .gap)
-
-  abbrev good : GoodKit kit
-  good = spells .good
 
   abbrev k′ : ℕ
   k′ = knownAfter kit r (h .known) (e .gap)
@@ -112,7 +109,7 @@ module _ (bytes : List ℕ) (kit : Kit) (spells : Spells bytes kit) (n : ℕ) (s
   me = concerned kit (e .event)
 
   read : EntryRead bytes kit n (s .at) e
-  read = next-cursor bytes kit n (s .at) e spells (h .cursor) is
+  read = next-cursor bytes kit n (s .at) e good (h .cursor) is
 
   fits : GoodEvent (replicas (kit .f)) (e .event) (e .requests)
   fits = good .events-good n e is .event

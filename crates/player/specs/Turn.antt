@@ -3,10 +3,11 @@ use mathlib.Core.Bool.{false}
 use mathlib.Core.List.{List, []}
 use Prim.Native.Nat.{ℕ, zero, suc, _+_, min}
 use lib.ListN.{getD, set, replicate}
-use Rattle.terms.specs.Limits.{eventsMax}
+use Rattle.terms.specs.Limits.{requestsMax, eventsMax}
+use Rattle.terms.specs.Lent.{Table, Requests, Ticks, Heads, Lists, Clocks, Answers}
 use Rattle.terms.specs.Numbers.{answerNumber}
 use Rattle.terms.specs.declared.Condition.the-variants.{Running}
-use Rattle.ledger.specs.Ledger.{Places}
+use Rattle.ledger.specs.Ledger.{Ledger, Issued}
 use Rattle.replica.specs.declared.Replica.{Replica}
 use Rattle.room.specs.declared.Desk.{Desk}
 use Rattle.room.specs.declared.Roles.{Roles}
@@ -16,18 +17,20 @@ use Rattle.room.specs.Layout.{Parts}
 use Rattle.rules.specs.Outcome.{answerOf}
 use Rattle.kit.specs.Reader.{nextIn, listAfter}
 use Rattle.kit.specs.declared.Next.{Next}
+use Rattle.kit.specs.declared.Settings.{Settings}
 use Rattle.clock.specs.Clocked.{clockOn}
 use Rattle.decide.specs.Decided.{concernedIn}
 use Rattle.decide.specs.DecidedLaws.{decidedOn}
 use Rattle.carry_out.specs.Done.{doneOn}
 use Rattle.player.specs.declared.Played.{Played}
+use Rattle.player.specs.Opening.{rolesIn, freshReplicas}
 
 -- the parts of the room, the answers and clocks so far, the list of the last filed history, and the cursor of the next event
 pub record Stage : Type 0 where
   pub parts : Parts
-  pub answers : List ℕ
-  pub clocks : List ℕ
-  pub list : List ℕ
+  pub answers : Answers
+  pub clocks : Clocks
+  pub list : Requests
   pub at : ℕ
 
 -- what stands where there is no replica
@@ -38,7 +41,7 @@ noReplica =
 -- ---- one event: clock, decision, what is done
 
 -- event k, where the clock has ticked: e is what was read, `list` the requests of a history that it files
-module _ (roles : Roles) (table : List ℕ) (k : ℕ) (s : Stage) (e : Next) (list : List ℕ) where
+module _ (roles : Roles) (table : Table) (k : ℕ) (s : Stage) (e : Next) (list : Requests) where
   abbrev pub doing : Parts → ℕ → Replica → Decision → Stage
   doing parts me p d =
       record {
@@ -55,32 +58,19 @@ module _ (roles : Roles) (table : List ℕ) (k : ℕ) (s : Stage) (e : Next) (li
   abbrev pub ticking : Parts → Stage
   ticking parts = deciding parts (concernedIn (e .event) roles) (getD (parts .replicas) (concernedIn (e .event) roles) noReplica)
 
-unfoldable pub turnOn : List ℕ → Roles → List ℕ → ℕ → Stage → Stage
+unfoldable pub turnOn : List ℕ → Roles → Table → ℕ → Stage → Stage
 turnOn bytes roles table k s =
     ticking roles table k s (nextIn bytes (s .at)) (listAfter bytes (s .at) (s .list))
     (clockOn roles table (s .parts) (nextIn bytes (s .at) .gap))
 
 -- m more events, the next one being event k
-unfoldable pub turnsFrom : List ℕ → Roles → List ℕ → ℕ → ℕ → Stage → Stage
+unfoldable pub turnsFrom : List ℕ → Roles → Table → ℕ → ℕ → Stage → Stage
 turnsFrom bytes roles table k zero s = s
 turnsFrom bytes roles table k (suc m) s = turnsFrom bytes roles table (k + 1) m (turnOn bytes roles table k s)
 
 -- ---- the loop's state and what it leaves
 
-abbrev pub stage
-    : Desk
-    → List Replica
-    → List ℕ
-    → List ℕ
-    → List ℕ
-    → List ℕ
-    → List (List ℕ)
-    → List (List ℕ)
-    → List Places
-    → List ℕ
-    → List ℕ
-    → ℕ
-    → Stage
+abbrev pub stage : Desk → List Replica → Answers → Clocks → Requests → Ticks → Heads → Lists → Ledger → Issued → Requests → ℕ → Stage
 stage desk replicas answers clocks requests ticks heads lists ledger issued list at =
     record {
       parts =
@@ -103,34 +93,39 @@ stage desk replicas answers clocks requests ticks heads lists ledger issued list
 -- what is left of a stage when the play ends
 pub record Left : Type 0 where
   pub parts : Parts
-  pub answers : List ℕ
-  pub clocks : List ℕ
+  pub answers : Answers
+  pub clocks : Clocks
 
 abbrev pub leftOf : Stage → Left
 leftOf s = record { parts = s .parts; answers = s .answers; clocks = s .clocks }
 
-abbrev pub left : Played → List ℕ → List ℕ → List ℕ → List ℕ → List (List ℕ) → List (List ℕ) → List Places → List ℕ → Left
+abbrev pub left : Played → Answers → Clocks → Requests → Ticks → Heads → Lists → Ledger → Issued → Left
 left p answers clocks requests ticks heads lists ledger issued =
     leftOf (stage (p .desk) (p .replicas) answers clocks requests ticks heads lists ledger issued [] 0)
 
--- the first events, `most` of them and no more than a kit has
-unfoldable pub playOn
+-- the first events, `most` of them and no more than a kit has; the first stands at this place
+unfoldable pub playFrom
     : List ℕ
     → ℕ
     → ℕ
     → Roles
-    → List ℕ
+    → Table
     → List Replica
-    → List ℕ
-    → List ℕ
-    → List ℕ
-    → List ℕ
-    → List (List ℕ)
-    → List (List ℕ)
-    → List Places
-    → List ℕ
+    → Answers
+    → Clocks
+    → Requests
+    → Ticks
+    → Heads
+    → Lists
+    → Ledger
+    → Issued
     → Left
-playOn bytes first most roles table fresh answers clocks requests ticks heads lists ledger issued =
+playFrom bytes first most roles table fresh answers clocks requests ticks heads lists ledger issued =
     leftOf
     (turnsFrom bytes roles table 0 (min most eventsMax)
-    (stage freshDesk fresh answers clocks requests ticks heads lists ledger issued (replicate 64 0) first))
+    (stage freshDesk fresh answers clocks requests ticks heads lists ledger issued (replicate requestsMax 0) first))
+
+-- the same from the room that these settings open
+unfoldable pub playOn : List ℕ → Settings → ℕ → Answers → Clocks → Requests → Ticks → Heads → Lists → Ledger → Issued → Left
+playOn bytes s most answers clocks requests ticks heads lists ledger issued =
+    playFrom bytes (s .first) most (rolesIn s) (s .table) (freshReplicas (s .table)) answers clocks requests ticks heads lists ledger issued

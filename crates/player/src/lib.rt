@@ -1,7 +1,8 @@
 // The player: the first events of a kit, one after the other, on the room's parts. The loop owns the replicas' records and is lent the rest, so
 // that no function takes the room; an event is read, the clock ticks, what it comes to is decided, and that is carried out.
 ghost use mathlib.Core.Path.{_≡_};
-ghost use Rattle.player.specs.Turn.{left, playOn};
+ghost use Rattle.player.specs.Turn.{left, playFrom, playOn};
+use kit::Settings;
 use ledger::Issued;
 use ledger::Ledger;
 use replica::Replica;
@@ -19,15 +20,16 @@ use terms::Requests;
 use terms::Table;
 use terms::Ticks;
 
+pub mod opening;
+
 // What the loop itself owned when the play ended; the other parts stand in what it was lent.
 pub struct Played {
     pub desk: Desk,
     pub replicas: Replicas,
 }
 
-// Plays the first `most` events of a kit whose first event stands at `first`, from a fresh desk, these records and what is lent. After it
-// answers[k] and clocks[k] are event k's; entries past the last event are as they were.
-pub fn play(
+// Plays the first `most` events of a kit whose first event stands at `first`, from a fresh desk, these records and what is lent.
+fn play_from(
     bytes: &[u8],
     first: usize,
     most: usize,
@@ -43,7 +45,7 @@ pub fn play(
     ledger: &mut Ledger,
     issued: &mut Issued,
 ) -> Played
-    ensures { λ r. ⌜ left r (now (answers .exit)) (now (clocks .exit)) (now (requests .exit)) (now (ticks .exit)) (now (heads .exit)) (now (lists .exit)) (now (ledger .exit)) (now (issued .exit)) ≡ playOn (now (bytes .entry)) first most roles (now (table .entry)) fresh (now (answers .entry)) (now (clocks .entry)) (now (requests .entry)) (now (ticks .entry)) (now (heads .entry)) (now (lists .entry)) (now (ledger .entry)) (now (issued .entry)) ⌝ }
+    ensures { λ r. ⌜ left r (now (answers .exit)) (now (clocks .exit)) (now (requests .exit)) (now (ticks .exit)) (now (heads .exit)) (now (lists .exit)) (now (ledger .exit)) (now (issued .exit)) ≡ playFrom (now (bytes .entry)) first most roles (now (table .entry)) fresh (now (answers .entry)) (now (clocks .entry)) (now (requests .entry)) (now (ticks .entry)) (now (heads .entry)) (now (lists .entry)) (now (ledger .entry)) (now (issued .entry)) ⌝ }
 {
     let mut replicas = fresh;
     let mut desk = Desk::fresh();
@@ -116,4 +118,42 @@ pub fn play(
         k = k + 1;
     }
     Played { desk, replicas }
+}
+
+// Plays the first `most` events of a kit with these settings, from the room that they open and what is lent. After it answers[k] and clocks[k]
+// are event k's; entries past the last event are as they were.
+pub fn play(
+    bytes: &[u8],
+    settings: Settings,
+    most: usize,
+    answers: &mut Answers,
+    clocks: &mut Clocks,
+    requests: &mut Requests,
+    ticks: &mut Ticks,
+    heads: &mut Heads,
+    lists: &mut Lists,
+    ledger: &mut Ledger,
+    issued: &mut Issued,
+) -> Played
+    ensures { λ r. ⌜ left r (now (answers .exit)) (now (clocks .exit)) (now (requests .exit)) (now (ticks .exit)) (now (heads .exit)) (now (lists .exit)) (now (ledger .exit)) (now (issued .exit)) ≡ playOn (now (bytes .entry)) settings most (now (answers .entry)) (now (clocks .entry)) (now (requests .entry)) (now (ticks .entry)) (now (heads .entry)) (now (lists .entry)) (now (ledger .entry)) (now (issued .entry)) ⌝ }
+{
+    let table = settings.table;
+    let roles = opening::roles_of(settings);
+    let fresh = opening::fresh_replicas(&table);
+    play_from(
+        bytes,
+        settings.first,
+        most,
+        roles,
+        &table,
+        fresh,
+        answers,
+        clocks,
+        requests,
+        ticks,
+        heads,
+        lists,
+        ledger,
+        issued,
+    )
 }

@@ -7,3 +7,4 @@ pub mod BoundsLaws
 pub mod GoodLaws
 pub mod SettledLaws
 pub mod Reached
+pub mod Said

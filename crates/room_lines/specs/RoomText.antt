@@ -13,7 +13,7 @@ use Rattle.rules.specs.Reading.{isFaulty, settled}
 use Rattle.rules.specs.Play.{after, answer}
 use Rattle.replica.specs.RecordLayout.{numberOr0}
 use Rattle.play_lines.specs.Lines.{linesFrom}
-use Rattle.play_lines.specs.PlayText.{numberSaid}
+use Rattle.room.specs.Said.{numberSaid}
 use Rattle.room_lines.specs.Pieces.{dash, numbered, eventText, submissionText, submittedText, historyText, contentText, counterText, recordText}
 
 -- the answer to event n, counted from 1: none before the first

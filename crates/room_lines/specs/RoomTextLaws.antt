@@ -28,10 +28,11 @@ use Rattle.room.specs.Settled.{shownRecord}
 use Rattle.room.specs.SettledLaws.{settled-shown, shown-laid}
 use Rattle.play_lines.specs.Lines.{linesFrom}
 use Rattle.play_lines.specs.LinesLaws.{lines-ext}
-use Rattle.play_lines.specs.PlayTextLaws.{Says}
+use Rattle.room.specs.Said.{Says}
 use Rattle.room_lines.specs.Pieces.{submittedText, historyText, counterText, acceptedText, keptText, recordText}
 use Rattle.room_lines.specs.PieceLaws.{entries-ext, lines-each}
-use Rattle.room_lines.specs.RoomLines.{answerIn, submissionsIn, submittedLine, historyLines, contentsIn, counterLine, countersAt, counterLines, recordLine, replicaLine, replicaLines, roomLines}
+use Rattle.room_lines.specs.RoomLines.{answerIn, submissionsIn, submittedLine, historyLines, contentsIn, counterLine, countersAt, counterLines}
+use Rattle.room_lines.specs.RoomLines.{recordLine, replicaLine, replicaLines, roomLines}
 use Rattle.room_lines.specs.RoomText.{answerSaid, submittedSaid, historiesSaid, counterSaid, countersSaid, recordShown, replicaSaid, roomText}
 
 -- ---- the answer
@@ -116,7 +117,9 @@ module _ (kit : Kit) (r : Room) (b : Bounds kit r) where
   replica-said x below =
       rw (settled-shown kit r b x below, shown-said (r .replica x)) (record-said x (recordShown (r .replica x)) (settled kit r x))
 
-  replicas-said : replicaLines (layReplicas (r .replica)) (layRoles kit) (layTable kit) (layHeads (r .histories)) (layLists (r .histories)) (layIssued (r .counter))
+  replicas-said
+      : replicaLines (layReplicas (r .replica)) (layRoles kit) (layTable kit) (layHeads (r .histories)) (layLists (r .histories))
+      (layIssued (r .counter))
       ≡ linesFrom 0 (length (kit .table)) (replicaSaid kit r)
   unfolding replicaLines layRoles
   replicas-said =

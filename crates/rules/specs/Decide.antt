@@ -46,16 +46,19 @@ decide kit r Event.Build =
     decideBuild (p .condition) (p .held) (built kit r .j) (built kit r .k)
 decide kit r (Event.File j k) = decideFile (r .filed) j k
 
--- the replica whose record an event concerns: the leader where a request is submitted, the switch leader where it builds
+-- the replica whose record an event concerns, by leader and switch leader: the leader where a request is submitted, the switch leader where it builds
+abbrev pub concernedBy : ℕ → ℕ → Event → ℕ
+concernedBy leader switcher (Event.Submit request) = leader
+concernedBy leader switcher (Event.Issue replica name content) = replica
+concernedBy leader switcher (Event.Deliver sender name value to) = to
+concernedBy leader switcher (Event.Hand p q to) = to
+concernedBy leader switcher (Event.Panic to) = to
+concernedBy leader switcher Event.Idle = 0
+concernedBy leader switcher Event.Build = switcher
+concernedBy leader switcher (Event.File j k) = 0
+
 unfoldable pub concerned : Kit → Event → ℕ
-concerned kit (Event.Submit request) = kit .leader
-concerned kit (Event.Issue replica name content) = replica
-concerned kit (Event.Deliver sender name value to) = to
-concerned kit (Event.Hand p q to) = to
-concerned kit (Event.Panic to) = to
-concerned kit Event.Idle = 0
-concerned kit Event.Build = switchLeader kit
-concerned kit (Event.File j k) = 0
+concerned kit e = concernedBy (kit .leader) (switchLeader kit) e
 
 -- ---- what is done
 

@@ -1,8 +1,13 @@
 -- `concerned` meets its contract. Assumes nothing.
+use mathlib.Core.Path.{_≡_, refl}
 use borrow.Author.Needs.{needs}
-use Rattle.decide.specs.Decided.{concernedIn}
+use Rattle.decide.specs.Decided.{belowSeven, concernedIn}
 use Rattle.decide.proofs.concerned.Statement.{statement}
 use Rattle.decide.proofs.concerned.Tie as tie
+
+zero-below : 0 ≡ belowSeven 0
+unfolding belowSeven
+zero-below = refl
 
 pub concerned-spec : {M : Type 1} → statement M
 unfolding concernedIn
@@ -28,6 +33,6 @@ concerned-spec =
     (λ c. rw (c .before .before .event2 .given .1, ← c .below-seven3 .ensures))
     (λ c. rw (c .before .before .event3 .given .1, ← c .below-seven4 .ensures))
     (λ c. rw (c .before .before .event4 .given .1, ← c .below-seven5 .ensures))
-    (λ c. rw (c .enum-told2 .given .1))
+    (λ c. rw (c .enum-told2 .given .1) zero-below)
     (λ c. rw (c .before .enum-told3 .given .1, ← c .below-seven6 .ensures))
-    (λ c. rw (c .enum-told4 .given .1)))
+    (λ c. rw (c .enum-told4 .given .1) zero-below))

@@ -10,5 +10,9 @@ unfolding eventLine
 put-event-spec =
     tie.close
     (tie.spec (λ c κs. search needs) (λ c κs. search needs) (λ c κs. search needs) (λ c κs. search needs) (λ c. search needs)
-    (λ c. then-lays (c .before .before .before .before .before .before .before .before .before .before .before .before .before .before .put-decimal .ensures)
-    (then-lays (c .before .before .before .before .before .before .before .before .before .before .put-next .ensures) (then-lays (c .before .before .before .before .before .before .put-next2 .ensures) (c .before .before .put-byte .ensures)))))
+    (λ c. let after-byte = c .before .before in
+    let after-next2 = after-byte .before .before .before .before in
+    let after-next = after-next2 .before .before .before .before in
+    let after-decimal = after-next .before .before .before .before in
+    then-lays (after-decimal .put-decimal .ensures)
+    (then-lays (after-next .put-next .ensures) (then-lays (after-next2 .put-next2 .ensures) (after-byte .put-byte .ensures)))))

@@ -23,12 +23,20 @@ put-events-spec =
     tie.close
     (tie.spec Inv-loop μ-loop (λ c κs. search needs)
     (λ c. (rw (c .lesser .ensures) (omega arith), rest-start _ _ (lines-start _ _)))
-    (λ c. search needs) (λ c κs. search needs) (λ c. omega arith) (λ c. omega arith) (λ c. omega arith) (λ c. omega arith) (λ c κs. search needs) (λ c κs. search needs) (λ c. search needs) (λ c. search needs)
-    (λ c. let s = c .before .before .before .before .before .before .before .before .before .loop in
-    let line = eventAt (c .before .before .before .before .before .before .before .before .before .before .before .before .args .clocks .now) (c .before .before .before .before .before .before .before .before .before .before .before .before .args .answers .now) in (
+    (λ c. search needs) (λ c κs. search needs) (λ c. omega arith) (λ c. omega arith) (λ c. omega arith) (λ c. omega arith) (λ c κs. search needs)
+    (λ c κs. search needs) (λ c. search needs) (λ c. search needs)
+    (λ c. let after-event = c .before .before in
+    let after-wide = after-event .before in
+    let after-long = after-wide .before .before .before in
+    let tested = after-long .before .before in
+    let in-loop = tested .before in
+    let after-lesser = in-loop .before in
+    let start = after-lesser .before .before in
+    let s = in-loop .loop in
+    let line = eventAt (start .args .clocks .now) (start .args .answers .now) in (
       s .inv .0,
-      rest-next (s .inv .1) {v = line (s .k)} (lines-next (s .k) (c .before .before .before .before .before .before .before .before .before .before .lesser .result) line (c .before .before .before .before .before .before .before .before .loop-test .taken))
-          (lays-as (c .before .before .put-event .ensures) (rw (c .before .before .before .wide .ensures, c .before .before .before .before .before .before .long .ensures, add-one (s .k)))),
+      rest-next (s .inv .1) {v = line (s .k)} (lines-next (s .k) (after-lesser .lesser .result) line (tested .loop-test .taken))
+          (lays-as (after-event .put-event .ensures) (rw (after-wide .wide .ensures, after-long .long .ensures, add-one (s .k)))),
     ))
     (λ c. c .before .loop .inv .1 .long)
     (λ c. lays-as (rest-over (c .before .loop .inv .1) (lines-over _ _ _ (c .loop-test .left))) (rw (c .before .before .lesser .ensures))))

@@ -12,5 +12,13 @@ use Rattle.play_lines.proofs.put_first.Tie as tie
 pub put-first-spec : {M : Type 1} → statement M
 put-first-spec =
     tie.close
-    (tie.spec (λ c κs. search needs) (λ c. omega (arith, c .before .before .lesser .ensures, length-take (c .before .before .lesser .result) (c .before .before .before .before .before .args .list .now))) (λ c κs. search needs) (λ c. search needs)
-    (λ c. lays-as (c .before .before .put-settled .ensures) (ap (settledLine _ _ _) (rw (c .before .before .before .before .before .lesser .ensures) (take-least (c .before .before .before .before .before .before .before .before .args .n) (c .before .before .before .before .before .before .before .before .args .list .now))))))
+    (tie.spec (λ c κs. search needs)
+    (λ c. let after-lesser = c .before .before in
+    let start = after-lesser .before .before .before in
+    omega (arith, after-lesser .lesser .ensures, length-take (after-lesser .lesser .result) (start .args .list .now)))
+    (λ c κs. search needs) (λ c. search needs)
+    (λ c. let after-settled = c .before .before in
+    let after-lesser = after-settled .before .before .before in
+    let start = after-lesser .before .before .before in
+    lays-as (after-settled .put-settled .ensures)
+    (ap (settledLine _ _ _) (rw (after-lesser .lesser .ensures) (take-least (start .args .n) (start .args .list .now))))))

@@ -11,5 +11,9 @@ unfolding kitLine
 put-kit-spec =
     tie.close
     (tie.spec (λ c. search needs) (λ c κs. search needs) (λ c κs. search needs) (λ c κs. search needs) (λ c κs. search needs) (λ c. search needs)
-    (λ c. then-lays (c .before .before .before .before .before .before .before .before .before .before .before .put-word .ensures)
-    (then-lays (lays-as (c .before .before .before .before .before .before .put-next .ensures) (ap spaced (c .before .before .before .before .before .before .before .wide .ensures))) (c .before .before .put-byte .ensures))))
+    (λ c. let after-byte = c .before .before in
+    let after-next = after-byte .before .before .before .before in
+    let after-wide = after-next .before in
+    let after-word = after-wide .before .before .before .before in
+    then-lays (after-word .put-word .ensures)
+    (then-lays (lays-as (after-next .put-next .ensures) (ap spaced (after-wide .wide .ensures))) (after-byte .put-byte .ensures))))

@@ -10,6 +10,14 @@ unfolding lateText
 put-late-spec =
     tie.close
     (tie.spec (λ c. search needs) (λ c κs. search needs) (λ c κs. search needs) (λ c κs. search needs) (λ c. search needs)
-    (λ c. lays-as (then-lays (c .before .before .before .before .before .before .before .before .before .before .before .put-word .ensures) (then-lays (c .before .before .before .before .before .before .put-next .ensures) (c .before .before .put-byte .ensures))) (rw (c .before .before .before .before .before .before .before .before .if1 .taken)))
+    (λ c. let after-byte = c .before .before in
+    let after-next = after-byte .before .before .before .before in
+    let tested = after-next .before .before in
+    let after-word = tested .before .before .before in
+    lays-as (then-lays (after-word .put-word .ensures) (then-lays (after-next .put-next .ensures) (after-byte .put-byte .ensures)))
+    (rw (tested .if1 .taken)))
     (λ c. search needs) (λ c κs. search needs) (λ c. search needs)
-    (λ c. lays-as (then-lays (c .before .before .before .before .before .before .before .before .put-word .ensures) (c .before .before .put-word2 .ensures)) (rw (c .before .before .before .before .before .if1 .left))))
+    (λ c. let after-word2 = c .before .before in
+    let tested = after-word2 .before .before .before in
+    let after-word = tested .before .before .before in
+    lays-as (then-lays (after-word .put-word .ensures) (after-word2 .put-word2 .ensures)) (rw (tested .if1 .left))))

@@ -10,7 +10,13 @@ pub put-name-spec : {M : Type 1} → statement M
 unfolding replicaName
 put-name-spec =
     tie.close
-    (tie.spec (λ c. search needs) (λ c κs. search needs) (λ c κs. search needs) (λ c κs. search needs) (λ c κs. search needs) (λ c κs. search needs) (λ c. search needs)
-    (λ c. then-lays (c .before .before .before .before .before .before .before .before .before .before .before .before .before .before .before .put-word .ensures)
-    (then-lays (lays-as (c .before .before .before .before .before .before .before .before .before .before .put-next .ensures) (ap spaced (c .before .before .before .before .before .before .before .before .before .before .before .long .ensures)))
-    (then-lays (c .before .before .before .before .before .before .put-byte .ensures) (c .before .before .put-condition .ensures)))))
+    (tie.spec (λ c. search needs) (λ c κs. search needs) (λ c κs. search needs) (λ c κs. search needs) (λ c κs. search needs) (λ c κs. search needs)
+    (λ c. search needs)
+    (λ c. let after-condition = c .before .before in
+    let after-byte = after-condition .before .before .before .before in
+    let after-next = after-byte .before .before .before .before in
+    let after-long = after-next .before in
+    let after-word = after-long .before .before .before .before in
+    then-lays (after-word .put-word .ensures)
+    (then-lays (lays-as (after-next .put-next .ensures) (ap spaced (after-long .long .ensures)))
+    (then-lays (after-byte .put-byte .ensures) (after-condition .put-condition .ensures)))))

@@ -9,4 +9,7 @@ pub put-next-spec : {M : Type 1} → statement M
 unfolding spaced
 put-next-spec =
     tie.close
-    (tie.spec (λ c κs. search needs) (λ c κs. search needs) (λ c. search needs) (λ c. then-lays (c .before .before .before .before .before .before .put-byte .ensures) (c .before .before .put-decimal .ensures)))
+    (tie.spec (λ c κs. search needs) (λ c κs. search needs) (λ c. search needs)
+    (λ c. let after-decimal = c .before .before in
+    let after-byte = after-decimal .before .before .before .before in
+    then-lays (after-byte .put-byte .ensures) (after-decimal .put-decimal .ensures)))

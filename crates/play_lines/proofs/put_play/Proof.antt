@@ -10,4 +10,7 @@ unfolding playLines
 put-play-spec =
     tie.close
     (tie.spec (λ c κs. search needs) (λ c κs. search needs) (λ c κs. search needs) (λ c. search needs)
-    (λ c. then-lays (c .before .before .before .before .before .before .before .before .before .before .put-events .ensures) (then-lays (c .before .before .before .before .before .before .put-replicas .ensures) (c .before .before .put-late .ensures))))
+    (λ c. let after-late = c .before .before in
+    let after-replicas = after-late .before .before .before .before in
+    let after-events = after-replicas .before .before .before .before in
+    then-lays (after-events .put-events .ensures) (then-lays (after-replicas .put-replicas .ensures) (after-late .put-late .ensures))))

@@ -28,13 +28,20 @@ put-replicas-spec =
     (tie.spec Inv-loop μ-loop (λ c κs. search needs)
     (λ c. (rw (c .lesser .ensures) (omega arith), search needs, rest-start _ _ (lines-start _ _)))
     (λ c. omega arith) (λ c. omega arith) (λ c κs. search needs) (λ c. search needs) (λ c. search needs)
-    (λ c. let s = c .before .before .before .before .before .before .loop in
-    let a = c .before .before .before .before .before .before .before .before .before .args in (
+    (λ c. let after-replica = c .before .before in
+    let tested = after-replica .before .before .before in
+    let in-loop = tested .before in
+    let after-lesser = in-loop .before in
+    let start = after-lesser .before .before in
+    let s = in-loop .loop in
+    let a = start .args in (
       s .inv .0,
       s .inv .1,
       rest-next (s .inv .2)
-          (lines-next (s .x) (c .before .before .before .before .before .before .before .lesser .result) (replicaAt (a .roles .leader) (a .table .now) (a .heads .now) (a .lists .now) (a .issued .now) (a .t3)) (c .before .before .before .before .before .loop-test .taken))
-          (lays-as (c .before .before .put-replica .ensures) (ap (replicaLine _ _ _ _ _ _) (getD-any (a .t3) (s .x) _ _ (omega (arith, s .inv .0, s .inv .1, c .before .before .before .before .before .loop-test .taken))))),
+          (lines-next (s .x) (after-lesser .lesser .result)
+          (replicaAt (a .roles .leader) (a .table .now) (a .heads .now) (a .lists .now) (a .issued .now) (a .t3)) (tested .loop-test .taken))
+          (lays-as (after-replica .put-replica .ensures)
+          (ap (replicaLine _ _ _ _ _ _) (getD-any (a .t3) (s .x) _ _ (omega (arith, s .inv .0, s .inv .1, tested .loop-test .taken))))),
     ))
     (λ c. c .before .loop .inv .2 .long)
     (λ c. lays-as (rest-over (c .before .loop .inv .2) (lines-over _ _ _ (c .loop-test .left))) (rw (c .before .before .lesser .ensures))))

@@ -18,7 +18,13 @@ abbrev μ-loop : tie.MeasureT-loop
 pub put-requests-spec : {M : Type 1} → statement M
 put-requests-spec =
     tie.close
-    (tie.spec Inv-loop μ-loop (λ c. rest-start _ _ refl) (λ c. search needs) (λ c. search needs) (λ c κs. search needs) (λ c κs. search needs) (λ c. search needs) (λ c. search needs)
-    (λ c. rest-next (c .before .before .before .before .before .before .before .loop .inv) (requests-next _ _ (c .before .before .before .before .before .before .loop-test .taken)) (lays-as (c .before .before .put-next .ensures) (ap spaced (c .before .before .before .wide .ensures))))
+    (tie.spec Inv-loop μ-loop (λ c. rest-start _ _ refl) (λ c. search needs) (λ c. search needs) (λ c κs. search needs) (λ c κs. search needs)
+    (λ c. search needs) (λ c. search needs)
+    (λ c. let after-next = c .before .before in
+    let after-wide = after-next .before in
+    let tested = after-wide .before .before .before in
+    let in-loop = tested .before in
+    rest-next (in-loop .loop .inv) (requests-next _ _ (tested .loop-test .taken))
+    (lays-as (after-next .put-next .ensures) (ap spaced (after-wide .wide .ensures))))
     (λ c. c .before .loop .inv .long)
     (λ c. rest-over (c .before .loop .inv) (requests-over _ _ (c .loop-test .left))))

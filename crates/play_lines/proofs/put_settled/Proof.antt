@@ -10,8 +10,16 @@ pub put-settled-spec : {M : Type 1} → statement M
 unfolding settledLine
 put-settled-spec =
     tie.close
-    (tie.spec (λ c κs. search needs) (λ c κs. search needs) (λ c κs. search needs) (λ c κs. search needs) (λ c κs. search needs) (λ c κs. search needs) (λ c κs. search needs) (λ c. search needs)
-    (λ c. then-lays (c .before .before .before .before .before .before .before .before .before .before .before .before .before .before .before .before .before .before .before .before .put-name .ensures)
-    (then-lays (lays-as (c .before .before .before .before .before .before .before .before .before .before .before .before .before .before .before .put-next .ensures) (ap spaced (c .before .before .before .before .before .before .before .before .before .before .before .before .before .before .before .before .long .ensures)))
-    (then-lays (lays-as (c .before .before .before .before .before .before .before .before .before .before .put-next2 .ensures) (ap spaced (c .before .before .before .before .before .before .before .before .before .before .before .wide .ensures)))
-    (then-lays (c .before .before .before .before .before .before .put-requests .ensures) (c .before .before .put-byte .ensures))))))
+    (tie.spec (λ c κs. search needs) (λ c κs. search needs) (λ c κs. search needs) (λ c κs. search needs) (λ c κs. search needs)
+    (λ c κs. search needs) (λ c κs. search needs) (λ c. search needs)
+    (λ c. let after-byte = c .before .before in
+    let after-requests = after-byte .before .before .before .before in
+    let after-next2 = after-requests .before .before .before .before in
+    let after-wide = after-next2 .before in
+    let after-next = after-wide .before .before .before .before in
+    let after-long = after-next .before in
+    let after-name = after-long .before .before .before .before in
+    then-lays (after-name .put-name .ensures)
+    (then-lays (lays-as (after-next .put-next .ensures) (ap spaced (after-long .long .ensures)))
+    (then-lays (lays-as (after-next2 .put-next2 .ensures) (ap spaced (after-wide .wide .ensures)))
+    (then-lays (after-requests .put-requests .ensures) (after-byte .put-byte .ensures))))))

@@ -19,5 +19,7 @@ printed-input-spec =
       ends-within (put .put-kit .ensures) (omega arith),
     ))
     (λ c κs. search needs) (λ c. search needs)
-    (λ c. let put = c .before .before in
-    (lays-as (put .printed-play .ensures .0) (rw (le-ltb _ _ (put .before .before .if1 .left))), put .printed-play .ensures .1)))
+    (λ c. let put = c .before .before in (
+      lays-as (put .printed-play .ensures .0) (rw (le-ltb _ _ (put .before .before .if1 .left))),
+      put .printed-play .ensures .1,
+    )))

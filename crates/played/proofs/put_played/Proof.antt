@@ -9,9 +9,8 @@ use Rattle.played.proofs.put_played.Tie as tie
 pub put-played-spec : {M : Type 1} → statement M
 put-played-spec =
     tie.close
-    (tie.spec (λ c κs. search needs) (λ c κs. search needs) (λ c κs. search needs)
-    (λ c. search needs) (λ c κs. search needs) (λ c. search needs) (λ c κs. search needs)
-    (λ c. search needs)
+    (tie.spec (λ c κs. search needs) (λ c κs. search needs) (λ c κs. search needs) (λ c. search needs) (λ c κs. search needs) (λ c. search needs)
+    (λ c κs. search needs) (λ c. search needs)
     (λ c. let put = c .before .before in
     let lent = put .before .before .before .before in
     let asked = lent .before .before .before .before in
@@ -20,7 +19,8 @@ put-played-spec =
     let made = arrays .before .before .before .before in
     let fresh = made .before .before in
     lays-as (put .put-play .ensures)
-    (rw (asked .enum-told .given .1) (view-made Play _ _ _ (fresh .before .before .roles-of .ensures) (fresh .fresh-replicas .ensures) (played .play .ensures))))
+    (rw (asked .enum-told .given .1)
+    (view-made Play _ _ _ (fresh .before .before .roles-of .ensures) (fresh .fresh-replicas .ensures) (played .play .ensures))))
     (λ c. search needs)
     (λ c. let put = c .before .before in
     let lent = put .before .before .before .before in
@@ -31,4 +31,5 @@ put-played-spec =
     let made = arrays .before .before .before .before in
     let fresh = made .before .before in
     lays-as (put .put-room .ensures)
-    (rw (asked .enum-told2 .given .1) (view-made Room _ _ _ (fresh .before .before .roles-of .ensures) (fresh .fresh-replicas .ensures) (played .play .ensures)))))
+    (rw (asked .enum-told2 .given .1)
+    (view-made Room _ _ _ (fresh .before .before .roles-of .ensures) (fresh .fresh-replicas .ensures) (played .play .ensures)))))

@@ -10,5 +10,6 @@ unfolding acceptedText
 put-accepted-spec =
     tie.close
     (tie.spec (λ c. search needs) (λ c κs. search needs) (λ c κs. search needs) (λ c. search needs)
-    (λ c. then-lays (c .before .before .before .before .before .before .put-word .ensures)
-    (c .before .before .put-entries .ensures)))
+    (λ c. let after-entries = c .before .before in
+    let after-word = after-entries .before .before .before .before in
+    then-lays (after-word .put-word .ensures) (after-entries .put-entries .ensures)))

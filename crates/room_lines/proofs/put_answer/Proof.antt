@@ -11,6 +11,17 @@ unfolding answerIn
 put-answer-spec =
     tie.close
     (tie.spec (λ c κs. search needs) (λ c. search needs)
-    (λ c. lays-as (c .before .before .put-byte .ensures) (rw (eq-eqb _ _ (c .before .before .before .before .if1 .taken)))) (λ c κs. search needs) (λ c. search needs)
-    (λ c. lays-as (c .before .before .put-byte2 .ensures) (rw (ne-eqb _ _ (c .before .before .before .before .before .if1 .left), lt-ltb _ _ (c .before .before .before .before .if2 .taken)))) (λ c. search needs) (λ c. search needs) (λ c. search needs) (λ c κs. search needs) (λ c κs. search needs) (λ c. search needs)
-    (λ c. lays-as (c .before .before .put-decimal .ensures) (rw (ne-eqb _ _ (c .before .before .before .before .before .before .before .if1 .left), le-ltb _ _ (c .before .before .before .before .before .before .if2 .left), c .before .before .before .wide .ensures))))
+    (λ c. let after-byte = c .before .before in
+    let tested = after-byte .before .before in
+    lays-as (after-byte .put-byte .ensures) (rw (eq-eqb _ _ (tested .if1 .taken))))
+    (λ c κs. search needs) (λ c. search needs)
+    (λ c. let after-byte2 = c .before .before in
+    let tested2 = after-byte2 .before .before in
+    let tested = tested2 .before in
+    lays-as (after-byte2 .put-byte2 .ensures) (rw (ne-eqb _ _ (tested .if1 .left), lt-ltb _ _ (tested2 .if2 .taken))))
+    (λ c. search needs) (λ c. search needs) (λ c. search needs) (λ c κs. search needs) (λ c κs. search needs) (λ c. search needs)
+    (λ c. let after-decimal = c .before .before in
+    let after-wide = after-decimal .before in
+    let tested2 = after-wide .before .before .before in
+    let tested = tested2 .before in
+    lays-as (after-decimal .put-decimal .ensures) (rw (ne-eqb _ _ (tested .if1 .left), le-ltb _ _ (tested2 .if2 .left), after-wide .wide .ensures))))

@@ -8,5 +8,7 @@ pub put-between-spec : {M : Type 1} → statement M
 put-between-spec =
     tie.close
     (tie.spec (λ c κs. search needs) (λ c. search needs)
-    (λ c. lays-as (c .before .before .put-byte .ensures) (rw (c .before .before .before .before .if1 .taken)))
+    (λ c. let after-byte = c .before .before in
+    let tested = after-byte .before .before in
+    lays-as (after-byte .put-byte .ensures) (rw (tested .if1 .taken)))
     (λ c. lays-as (lays-none _ _) (rw (c .if1 .left))))

@@ -8,5 +8,7 @@ pub put-choice-spec : {M : Type 1} → statement M
 put-choice-spec =
     tie.close
     (tie.spec (λ c. search needs) (λ c κs. search needs) (λ c. search needs) (λ c. search needs)
-    (λ c. lays-as (c .before .before .put-content .ensures) (rw (c .before .before .before .before .before .choice .given .1)))
+    (λ c. let after-content = c .before .before in
+    let after-choice = after-content .before .before .before in
+    lays-as (after-content .put-content .ensures) (rw (after-choice .choice .given .1)))
     (λ c. lays-as (lays-none _ _) (rw (c .enum-told .given .1))))

@@ -20,8 +20,15 @@ abbrev μ-loop : tie.MeasureT-loop
 pub put-commas-spec : {M : Type 1} → statement M
 put-commas-spec =
     tie.close
-    (tie.spec Inv-loop μ-loop
-    (λ c. rest-start _ _ refl) (λ c κs. search needs) (λ c. search needs) (λ c. search needs) (λ c κs. search needs) (λ c κs. search needs) (λ c. search needs) (λ c. search needs)
-    (λ c. rest-next (c .before .before .before .before .before .before .before .before .before .before .before .loop .inv) (commas-next _ _ (c .before .before .before .before .before .before .before .before .before .before .loop-test .taken)) (then-lays (c .before .before .before .before .before .before .before .before .put-byte .ensures) (lays-as (c .before .before .put-decimal .ensures) (ap decimal (c .before .before .before .wide .ensures)))))
+    (tie.spec Inv-loop μ-loop (λ c. rest-start _ _ refl) (λ c κs. search needs) (λ c. search needs) (λ c. search needs) (λ c κs. search needs)
+    (λ c κs. search needs) (λ c. search needs) (λ c. search needs)
+    (λ c. let after-decimal = c .before .before in
+    let after-wide = after-decimal .before in
+    let lent = after-wide .before .before .before in
+    let after-byte = lent .before .before in
+    let tested = after-byte .before .before in
+    let in-loop = tested .before in
+    rest-next (in-loop .loop .inv) (commas-next _ _ (tested .loop-test .taken))
+    (then-lays (after-byte .put-byte .ensures) (lays-as (after-decimal .put-decimal .ensures) (ap decimal (after-wide .wide .ensures)))))
     (λ c. c .before .loop .inv .long)
     (λ c. rest-over (c .before .loop .inv) (commas-over _ _ (c .loop-test .left))))

@@ -9,5 +9,12 @@ pub put-content-spec : {M : Type 1} → statement M
 unfolding contentText
 put-content-spec =
     tie.close
-    (tie.spec (λ c κs. search needs) (λ c. search needs) (λ c κs. search needs) (λ c. search needs) (λ c κs. search needs) (λ c. search needs) (λ c κs. search needs) (λ c κs. search needs) (λ c. search needs)
-    (λ c. lays-as (c .before .before .put-parts .ensures) (rw (c .before .before .before .before .before .before .wide .ensures, c .before .before .before .before .before .wide2 .ensures, c .before .before .before .before .wide3 .ensures, c .before .before .before .before .before .before .before .numbers-of-content .ensures))))
+    (tie.spec (λ c κs. search needs) (λ c. search needs) (λ c κs. search needs) (λ c. search needs) (λ c κs. search needs) (λ c. search needs)
+    (λ c κs. search needs) (λ c κs. search needs) (λ c. search needs)
+    (λ c. let after-parts = c .before .before in
+    let after-wide3 = after-parts .before .before in
+    let after-wide2 = after-wide3 .before in
+    let after-wide = after-wide2 .before in
+    let after-numbers-of-content = after-wide .before in
+    lays-as (after-parts .put-parts .ensures)
+    (rw (after-wide .wide .ensures, after-wide2 .wide2 .ensures, after-wide3 .wide3 .ensures, after-numbers-of-content .numbers-of-content .ensures))))

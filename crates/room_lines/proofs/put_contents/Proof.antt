@@ -23,13 +23,21 @@ unfolding contentsIn
 put-contents-spec =
     tie.close
     (tie.spec Inv-loop μ-loop (λ c κs. search needs)
-    (λ c. (rw (c .lesser .ensures) (omega arith), rest-start _ _ (lines-start _ _))) (λ c κs. search needs) (λ c κs. search needs) (λ c κs. search needs) (λ c. search needs) (λ c. search needs)
-    (λ c. let s = c .before .before .before .before .before .before .before .loop in
-    let a = c .before .before .before .before .before .before .before .before .before .before .args in
+    (λ c. (rw (c .lesser .ensures) (omega arith), rest-start _ _ (lines-start _ _)))
+    (λ c κs. search needs) (λ c κs. search needs) (λ c κs. search needs) (λ c. search needs) (λ c. search needs)
+    (λ c. let after-choice = c .before .before in
+    let after-look-up = after-choice .before .before in
+    let after-value-after = after-look-up .before in
+    let tested = after-value-after .before in
+    let in-loop = tested .before in
+    let after-lesser = in-loop .before in
+    let start = after-lesser .before .before in
+    let s = in-loop .loop in
+    let a = start .args in
     let line = contentAtPlace (a .ledger .now) (a .issued .now) (a .x) (a .name) in (
       s .inv .0,
-      rest-next (s .inv .1) {v = line (s .i)} (lines-next (s .i) (c .before .before .before .before .before .before .before .before .lesser .result) line (c .before .before .before .before .before .before .loop-test .taken))
-          (lays-as (c .before .before .put-choice .ensures) (rw (c .before .before .before .before .look-up .ensures, c .before .before .before .before .before .value-after .ensures, add-one (s .i)))),
+      rest-next (s .inv .1) {v = line (s .i)} (lines-next (s .i) (after-lesser .lesser .result) line (tested .loop-test .taken))
+          (lays-as (after-choice .put-choice .ensures) (rw (after-look-up .look-up .ensures, after-value-after .value-after .ensures, add-one (s .i)))),
     ))
     (λ c. c .before .loop .inv .1 .long)
     (λ c. lays-as (rest-over (c .before .loop .inv .1) (lines-over _ _ _ (c .loop-test .left))) (rw (c .before .before .lesser .ensures))))

@@ -15,10 +15,23 @@ unfolding counterLine counterText
 put-counter-spec =
     tie.close
     (tie.spec (λ c κs. search needs)
-    (λ c. lays-as (lays-none _ _) (rw (← c .before .total .ensures, eq-eqb _ _ (c .if1 .taken)))) (λ c. search needs) (λ c κs. search needs) (λ c κs. search needs) (λ c κs. search needs) (λ c κs. search needs) (λ c κs. search needs) (λ c κs. search needs) (λ c κs. search needs) (λ c κs. search needs) (λ c. search needs)
-    (λ c. lays-as (then-lays (c .before .before .before .before .before .before .before .before .before .before .before .before .before .before .before .before .before .before .before .before .before .before .before .before .put-word .ensures)
-    (then-lays (lays-as (c .before .before .before .before .before .before .before .before .before .before .before .before .before .before .before .before .before .before .before .put-next .ensures) (ap spaced (c .before .before .before .before .before .before .before .before .before .before .before .before .before .before .before .before .before .before .before .before .long .ensures)))
-    (then-lays (c .before .before .before .before .before .before .before .before .before .before .before .before .before .before .before .put-byte .ensures)
-    (then-lays (lays-as (c .before .before .before .before .before .before .before .before .before .before .put-decimal .ensures) (ap decimal (c .before .before .before .before .before .before .before .before .before .before .before .long2 .ensures)))
-    (then-lays (c .before .before .before .before .before .before .put-contents .ensures)
-    (c .before .before .put-byte2 .ensures)))))) (rw (← c .before .before .before .before .before .before .before .before .before .before .before .before .before .before .before .before .before .before .before .before .before .before .before .before .before .before .before .before .total .ensures, ne-eqb _ _ (c .before .before .before .before .before .before .before .before .before .before .before .before .before .before .before .before .before .before .before .before .before .before .before .before .before .before .before .if1 .left)))))
+    (λ c. lays-as (lays-none _ _) (rw (← c .before .total .ensures, eq-eqb _ _ (c .if1 .taken))))
+    (λ c. search needs) (λ c κs. search needs) (λ c κs. search needs) (λ c κs. search needs) (λ c κs. search needs) (λ c κs. search needs)
+    (λ c κs. search needs) (λ c κs. search needs) (λ c κs. search needs) (λ c. search needs)
+    (λ c. let after-byte2 = c .before .before in
+    let after-contents = after-byte2 .before .before .before .before in
+    let after-decimal = after-contents .before .before .before .before in
+    let after-long2 = after-decimal .before in
+    let after-byte = after-long2 .before .before .before .before in
+    let after-next = after-byte .before .before .before .before in
+    let after-long = after-next .before in
+    let after-word = after-long .before .before .before .before in
+    let tested = after-word .before .before .before in
+    let after-total = tested .before in
+    lays-as
+    (then-lays (after-word .put-word .ensures)
+    (then-lays (lays-as (after-next .put-next .ensures) (ap spaced (after-long .long .ensures)))
+    (then-lays (after-byte .put-byte .ensures)
+    (then-lays (lays-as (after-decimal .put-decimal .ensures) (ap decimal (after-long2 .long2 .ensures)))
+    (then-lays (after-contents .put-contents .ensures) (after-byte2 .put-byte2 .ensures))))))
+    (rw (← after-total .total .ensures, ne-eqb _ _ (tested .if1 .left)))))

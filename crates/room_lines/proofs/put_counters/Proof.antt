@@ -22,11 +22,19 @@ unfolding counterLines
 put-counters-spec =
     tie.close
     (tie.spec Inv-loop μ-loop (λ c κs. search needs)
-    (λ c. (rw (c .lesser .ensures) (omega arith), rest-start _ _ (lines-start _ _))) (λ c κs. search needs) (λ c. search needs) (λ c. search needs)
-    (λ c. let s = c .before .before .before .before .before .loop in
-    let a = c .before .before .before .before .before .before .before .before .args in (
+    (λ c. (rw (c .lesser .ensures) (omega arith), rest-start _ _ (lines-start _ _)))
+    (λ c κs. search needs) (λ c. search needs) (λ c. search needs)
+    (λ c. let after-own = c .before .before in
+    let tested = after-own .before .before in
+    let in-loop = tested .before in
+    let after-lesser = in-loop .before in
+    let start = after-lesser .before .before in
+    let s = in-loop .loop in
+    let a = start .args in (
       s .inv .0,
-      rest-next (s .inv .1) (lines-next (s .x) (c .before .before .before .before .before .before .lesser .result) (countersAt (a .ledger .now) (a .issued .now)) (c .before .before .before .before .loop-test .taken)) (c .before .before .put-own .ensures),
+      rest-next (s .inv .1)
+          (lines-next (s .x) (after-lesser .lesser .result) (countersAt (a .ledger .now) (a .issued .now)) (tested .loop-test .taken))
+          (after-own .put-own .ensures),
     ))
     (λ c. c .before .loop .inv .1 .long)
     (λ c. lays-as (rest-over (c .before .loop .inv .1) (lines-over _ _ _ (c .loop-test .left))) (rw (c .before .before .lesser .ensures))))

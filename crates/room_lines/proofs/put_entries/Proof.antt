@@ -21,9 +21,19 @@ abbrev μ-loop : tie.MeasureT-loop
 pub put-entries-spec : {M : Type 1} → statement M
 put-entries-spec =
     tie.close
-    (tie.spec Inv-loop μ-loop
-    (λ c. rest-start _ _ refl) (λ c. search needs) (λ c. search needs) (λ c κs. search needs) (λ c κs. search needs) (λ c. search needs) (λ c. search needs)
-    (λ c. rw (c .begins .ensures) (rest-next (c .before .before .before .before .before .before .before .loop .inv) (entries-next _ _ _ _ (c .before .before .before .before .before .before .loop-test .taken)) (c .before .before .before .put-entry .ensures)))
+    (tie.spec Inv-loop μ-loop (λ c. rest-start _ _ refl) (λ c. search needs) (λ c. search needs) (λ c κs. search needs) (λ c κs. search needs)
+    (λ c. search needs) (λ c. search needs)
+    (λ c. let after-entry = c .before .before .before in
+    let tested = after-entry .before .before .before in
+    let in-loop = tested .before in
+    rw (c .begins .ensures) (rest-next (in-loop .loop .inv) (entries-next _ _ _ _ (tested .loop-test .taken)) (after-entry .put-entry .ensures)))
     (λ c. c .before .before .loop .inv .long)
-    (λ c. rest-over (c .before .before .loop .inv) (entries-over _ _ _ _ (c .before .loop-test .left) ∙ rw (c .if1 .taken))) (λ c κs. search needs) (λ c. search needs)
-    (λ c. rest-over (rest-next (c .before .before .before .before .before .before .loop .inv) {w = []} (entries-over _ _ _ _ (c .before .before .before .before .before .loop-test .left) ∙ rw (c .before .before .before .before .if1 .left)) (c .before .before .put-byte .ensures)) refl))
+    (λ c. rest-over (c .before .before .loop .inv) (entries-over _ _ _ _ (c .before .loop-test .left) ∙ rw (c .if1 .taken)))
+    (λ c κs. search needs) (λ c. search needs)
+    (λ c. let after-byte = c .before .before in
+    let tested = after-byte .before .before in
+    let left-loop = tested .before in
+    let in-loop = left-loop .before in
+    rest-over
+    (rest-next (in-loop .loop .inv) {w = []} (entries-over _ _ _ _ (left-loop .loop-test .left) ∙ rw (tested .if1 .left))
+    (after-byte .put-byte .ensures)) refl))

@@ -13,10 +13,23 @@ unfolding entryText
 put-entry-spec =
     tie.close
     (tie.spec
-    (λ c. lays-as (lays-none _ _) (rw (eq-eqb _ _ (c .if1 .taken)))) (λ c κs. search needs) (λ c κs. search needs) (λ c κs. search needs) (λ c κs. search needs) (λ c κs. search needs) (λ c κs. search needs) (λ c κs. search needs) (λ c κs. search needs) (λ c κs. search needs) (λ c. search needs)
-    (λ c. lays-as (then-lays (c .before .before .before .before .before .before .before .before .before .before .before .before .before .before .before .before .before .before .before .before .before .before .before .before .before .put-between .ensures)
-    (then-lays (lays-as (c .before .before .before .before .before .before .before .before .before .before .before .before .before .before .before .before .before .before .before .before .put-decimal .ensures) (ap decimal (c .before .before .before .before .before .before .before .before .before .before .before .before .before .before .before .before .before .before .before .before .before .long .ensures)))
-    (then-lays (c .before .before .before .before .before .before .before .before .before .before .before .before .before .before .before .before .put-byte .ensures)
-    (then-lays (lays-as (c .before .before .before .before .before .before .before .before .before .before .before .put-decimal2 .ensures) (ap decimal (c .before .before .before .before .before .before .before .before .before .before .before .before .long2 .ensures)))
-    (then-lays (c .before .before .before .before .before .before .before .put-byte2 .ensures)
-    (lays-as (c .before .before .put-decimal3 .ensures) (ap decimal (c .before .before .before .wide .ensures)))))))) (rw (ne-eqb _ _ (c .before .before .before .before .before .before .before .before .before .before .before .before .before .before .before .before .before .before .before .before .before .before .before .before .before .before .before .if1 .left)))))
+    (λ c. lays-as (lays-none _ _) (rw (eq-eqb _ _ (c .if1 .taken))))
+    (λ c κs. search needs) (λ c κs. search needs) (λ c κs. search needs) (λ c κs. search needs) (λ c κs. search needs) (λ c κs. search needs)
+    (λ c κs. search needs) (λ c κs. search needs) (λ c κs. search needs) (λ c. search needs)
+    (λ c. let after-decimal3 = c .before .before in
+    let after-wide = after-decimal3 .before in
+    let after-byte2 = after-wide .before .before .before .before in
+    let after-decimal2 = after-byte2 .before .before .before .before in
+    let after-long2 = after-decimal2 .before in
+    let after-byte = after-long2 .before .before .before .before in
+    let after-decimal = after-byte .before .before .before .before in
+    let after-long = after-decimal .before in
+    let after-between = after-long .before .before .before .before in
+    let tested = after-between .before .before in
+    lays-as
+    (then-lays (after-between .put-between .ensures)
+    (then-lays (lays-as (after-decimal .put-decimal .ensures) (ap decimal (after-long .long .ensures)))
+    (then-lays (after-byte .put-byte .ensures)
+    (then-lays (lays-as (after-decimal2 .put-decimal2 .ensures) (ap decimal (after-long2 .long2 .ensures)))
+    (then-lays (after-byte2 .put-byte2 .ensures) (lays-as (after-decimal3 .put-decimal3 .ensures) (ap decimal (after-wide .wide .ensures))))))))
+    (rw (ne-eqb _ _ (tested .if1 .left)))))

@@ -12,7 +12,14 @@ unfolding heldText
 put-held-spec =
     tie.close
     (tie.spec (λ c. search needs) (λ c κs. search needs) (λ c κs. search needs) (λ c κs. search needs) (λ c. search needs)
-    (λ c. lays-as (then-lays (c .before .before .before .before .before .before .before .before .put-word .ensures)
-    (lays-as (c .before .before .put-decimal .ensures) (ap decimal (c .before .before .before .wide .ensures)))) (rw (c .before .before .before .before .before .if1 .taken))) (λ c κs. search needs) (λ c. search needs)
-    (λ c. lays-as (then-lays (c .before .before .before .before .before .before .before .put-word .ensures)
-    (c .before .before .put-byte .ensures)) (rw (c .before .before .before .before .if1 .left))))
+    (λ c. let after-decimal = c .before .before in
+    let after-wide = after-decimal .before in
+    let tested = after-wide .before .before in
+    let after-word = tested .before .before .before in
+    lays-as (then-lays (after-word .put-word .ensures) (lays-as (after-decimal .put-decimal .ensures) (ap decimal (after-wide .wide .ensures))))
+    (rw (tested .if1 .taken)))
+    (λ c κs. search needs) (λ c. search needs)
+    (λ c. let after-byte = c .before .before in
+    let tested = after-byte .before .before in
+    let after-word = tested .before .before .before in
+    lays-as (then-lays (after-word .put-word .ensures) (after-byte .put-byte .ensures)) (rw (tested .if1 .left))))

@@ -22,11 +22,21 @@ unfolding historyLines
 put-histories-spec =
     tie.close
     (tie.spec Inv-loop μ-loop (λ c κs. search needs)
-    (λ c. (rw (c .lesser .ensures) (omega arith), rest-start _ _ (lines-start _ _))) (λ c. search needs) (λ c. search needs) (λ c. search needs) (λ c. search needs) (λ c. search needs) (λ c. search needs) (λ c. search needs) (λ c. search needs) (λ c. search needs) (λ c. search needs) (λ c. search needs) (λ c κs. search needs) (λ c. search needs) (λ c. search needs)
-    (λ c. let s = c .before .before .before .before .before .before .before .before .before .before .loop in
-    let a = c .before .before .before .before .before .before .before .before .before .before .before .before .before .args in (
+    (λ c. (rw (c .lesser .ensures) (omega arith), rest-start _ _ (lines-start _ _)))
+    (λ c. search needs) (λ c. search needs) (λ c. search needs) (λ c. search needs) (λ c. search needs) (λ c. search needs) (λ c. search needs)
+    (λ c. search needs) (λ c. search needs) (λ c. search needs) (λ c. search needs) (λ c κs. search needs) (λ c. search needs) (λ c. search needs)
+    (λ c. let after-history = c .before .before in
+    let lent = after-history .before .before .before in
+    let tested = lent .before .before .before .before in
+    let in-loop = tested .before in
+    let after-lesser = in-loop .before in
+    let start = after-lesser .before .before in
+    let s = in-loop .loop in
+    let a = start .args in (
       s .inv .0,
-      rest-next (s .inv .1) {v = historyAt (a .heads .now) (a .lists .now) (s .h)} (lines-next (s .h) (c .before .before .before .before .before .before .before .before .before .before .before .lesser .result) (historyAt (a .heads .now) (a .lists .now)) (c .before .before .before .before .before .before .before .before .before .loop-test .taken)) (c .before .before .put-history .ensures),
+      rest-next (s .inv .1) {v = historyAt (a .heads .now) (a .lists .now) (s .h)}
+          (lines-next (s .h) (after-lesser .lesser .result) (historyAt (a .heads .now) (a .lists .now)) (tested .loop-test .taken))
+          (after-history .put-history .ensures),
     ))
     (λ c. c .before .loop .inv .1 .long)
     (λ c. lays-as (rest-over (c .before .loop .inv .1) (lines-over _ _ _ (c .loop-test .left))) (rw (c .before .before .lesser .ensures))))

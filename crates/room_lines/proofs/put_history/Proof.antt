@@ -11,10 +11,20 @@ pub put-history-spec : {M : Type 1} → statement M
 unfolding historyText
 put-history-spec =
     tie.close
-    (tie.spec (λ c. search needs) (λ c κs. search needs) (λ c κs. search needs) (λ c κs. search needs) (λ c κs. search needs) (λ c κs. search needs) (λ c κs. search needs) (λ c κs. search needs) (λ c. search needs) (λ c κs. search needs) (λ c κs. search needs) (λ c. search needs)
-    (λ c. then-lays (c .before .before .before .before .before .before .before .before .before .before .before .before .before .before .before .before .before .before .before .before .before .before .before .before .before .before .put-word .ensures)
-    (then-lays (lays-as (c .before .before .before .before .before .before .before .before .before .before .before .before .before .before .before .before .before .before .before .before .before .put-next .ensures) (ap spaced (c .before .before .before .before .before .before .before .before .before .before .before .before .before .before .before .before .before .before .before .before .before .before .long .ensures)))
-    (then-lays (lays-as (c .before .before .before .before .before .before .before .before .before .before .before .before .before .before .before .before .put-next2 .ensures) (ap spaced (c .before .before .before .before .before .before .before .before .before .before .before .before .before .before .before .before .before .long2 .ensures)))
-    (then-lays (lays-as (c .before .before .before .before .before .before .before .before .before .before .before .put-next3 .ensures) (ap spaced (c .before .before .before .before .before .before .before .before .before .before .before .before .long3 .ensures)))
-    (then-lays (c .before .before .before .before .before .before .put-part .ensures)
-    (c .before .before .put-byte .ensures)))))))
+    (tie.spec (λ c. search needs) (λ c κs. search needs) (λ c κs. search needs) (λ c κs. search needs) (λ c κs. search needs) (λ c κs. search needs)
+    (λ c κs. search needs) (λ c κs. search needs) (λ c. search needs) (λ c κs. search needs) (λ c κs. search needs) (λ c. search needs)
+    (λ c. let after-byte = c .before .before in
+    let after-part = after-byte .before .before .before .before in
+    let lent = after-part .before .before .before in
+    let after-next3 = lent .before .before in
+    let after-long3 = after-next3 .before in
+    let after-next2 = after-long3 .before .before .before .before in
+    let after-long2 = after-next2 .before in
+    let after-next = after-long2 .before .before .before .before in
+    let after-long = after-next .before in
+    let after-word = after-long .before .before .before .before in
+    then-lays (after-word .put-word .ensures)
+    (then-lays (lays-as (after-next .put-next .ensures) (ap spaced (after-long .long .ensures)))
+    (then-lays (lays-as (after-next2 .put-next2 .ensures) (ap spaced (after-long2 .long2 .ensures)))
+    (then-lays (lays-as (after-next3 .put-next3 .ensures) (ap spaced (after-long3 .long3 .ensures)))
+    (then-lays (after-part .put-part .ensures) (after-byte .put-byte .ensures)))))))

@@ -11,6 +11,13 @@ pub put-listed-spec : {M : Type 1} → statement M
 put-listed-spec =
     tie.close
     (tie.spec (λ c κs. search needs) (λ c. search needs)
-    (λ c. lays-as (c .before .before .put-byte .ensures) (listed-none _ (c .before .before .before .before .if1 .taken))) (λ c. search needs) (λ c κs. search needs) (λ c κs. search needs) (λ c κs. search needs) (λ c. search needs)
-    (λ c. lays-as (then-lays (lays-as (c .before .before .before .before .before .before .put-decimal .ensures) (ap decimal (c .before .before .before .before .before .before .before .wide .ensures)))
-    (c .before .before .put-commas .ensures)) (listed-some _ (c .before .before .before .before .before .before .before .before .before .before .if1 .left))))
+    (λ c. let after-byte = c .before .before in
+    let tested = after-byte .before .before in
+    lays-as (after-byte .put-byte .ensures) (listed-none _ (tested .if1 .taken)))
+    (λ c. search needs) (λ c κs. search needs) (λ c κs. search needs) (λ c κs. search needs) (λ c. search needs)
+    (λ c. let after-commas = c .before .before in
+    let after-decimal = after-commas .before .before .before .before in
+    let after-wide = after-decimal .before in
+    let tested = after-wide .before .before .before in
+    lays-as (then-lays (lays-as (after-decimal .put-decimal .ensures) (ap decimal (after-wide .wide .ensures))) (after-commas .put-commas .ensures))
+    (listed-some _ (tested .if1 .left))))

@@ -11,9 +11,18 @@ pub put-opening-spec : {M : Type 1} → statement M
 unfolding openingText
 put-opening-spec =
     tie.close
-    (tie.spec (λ c κs. search needs) (λ c. search needs) (λ c κs. search needs) (λ c κs. search needs) (λ c κs. search needs) (λ c. search needs) (λ c κs. search needs) (λ c κs. search needs) (λ c κs. search needs) (λ c. search needs)
-    (λ c. then-lays (c .before .before .before .before .before .before .before .before .before .before .before .before .before .before .before .before .before .before .before .before .before .before .put-name .ensures)
-    (then-lays (c .before .before .before .before .before .before .before .before .before .before .before .before .before .before .before .before .before .put-word .ensures)
-    (then-lays (lays-as (c .before .before .before .before .before .before .before .before .before .before .before .before .put-decimal .ensures) (ap decimal (c .before .before .before .before .before .before .before .before .before .before .before .before .before .long .ensures)))
-    (then-lays (c .before .before .before .before .before .before .before .put-word2 .ensures)
-    (lays-as (c .before .before .put-decimal2 .ensures) (ap decimal (c .before .before .before .wide .ensures))))))))
+    (tie.spec (λ c κs. search needs) (λ c. search needs) (λ c κs. search needs) (λ c κs. search needs) (λ c κs. search needs) (λ c. search needs)
+    (λ c κs. search needs) (λ c κs. search needs) (λ c κs. search needs) (λ c. search needs)
+    (λ c. let after-decimal2 = c .before .before in
+    let after-wide = after-decimal2 .before in
+    let after-word2 = after-wide .before .before .before .before in
+    let lent = after-word2 .before .before .before in
+    let after-decimal = lent .before .before in
+    let after-long = after-decimal .before in
+    let after-word = after-long .before .before .before .before in
+    let lent2 = after-word .before .before .before in
+    let after-name = lent2 .before .before in
+    then-lays (after-name .put-name .ensures)
+    (then-lays (after-word .put-word .ensures)
+    (then-lays (lays-as (after-decimal .put-decimal .ensures) (ap decimal (after-long .long .ensures)))
+    (then-lays (after-word2 .put-word2 .ensures) (lays-as (after-decimal2 .put-decimal2 .ensures) (ap decimal (after-wide .wide .ensures))))))))

@@ -10,6 +10,7 @@ unfolding countersAt
 put-own-spec =
     tie.close
     (tie.spec (λ c κs. search needs) (λ c κs. search needs) (λ c κs. search needs) (λ c. search needs)
-    (λ c. then-lays (c .before .before .before .before .before .before .before .before .before .before .put-counter .ensures)
-    (then-lays (c .before .before .before .before .before .before .put-counter2 .ensures)
-    (c .before .before .put-counter3 .ensures))))
+    (λ c. let after-counter3 = c .before .before in
+    let after-counter2 = after-counter3 .before .before .before .before in
+    let after-counter = after-counter2 .before .before .before .before in
+    then-lays (after-counter .put-counter .ensures) (then-lays (after-counter2 .put-counter2 .ensures) (after-counter3 .put-counter3 .ensures))))

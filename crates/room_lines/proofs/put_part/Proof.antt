@@ -13,5 +13,16 @@ pub put-part-spec : {M : Type 1} → statement M
 put-part-spec =
     tie.close
     (tie.spec (λ c κs. search needs) (λ c κs. search needs)
-    (λ c. omega (arith, c .before .before .before .before .before .before .lesser .ensures, length-take (c .before .before .before .before .before .before .lesser .result) (c .before .before .before .before .before .before .before .before .before .before .args .list .now))) (λ c κs. search needs) (λ c. search needs)
-    (λ c. then-lays (c .before .before .before .before .before .before .before .put-word .ensures) (lays-as (c .before .before .put-listed .ensures) (ap listed (rw (c .before .before .before .before .before .before .before .before .before .lesser .ensures) (take-least (c .before .before .before .before .before .before .before .before .before .before .before .before .before .args .n) (c .before .before .before .before .before .before .before .before .before .before .before .before .before .args .list .now)))))))
+    (λ c. let lent = c .before .before in
+    let after-lesser = lent .before .before .before .before in
+    let start = after-lesser .before .before .before .before in
+    omega (arith, after-lesser .lesser .ensures, length-take (after-lesser .lesser .result) (start .args .list .now)))
+    (λ c κs. search needs) (λ c. search needs)
+    (λ c. let after-listed = c .before .before in
+    let lent = after-listed .before .before .before in
+    let after-word = lent .before .before in
+    let after-lesser = after-word .before .before in
+    let start = after-lesser .before .before .before .before in
+    then-lays (after-word .put-word .ensures)
+    (lays-as (after-listed .put-listed .ensures)
+    (ap listed (rw (after-lesser .lesser .ensures) (take-least (start .args .n) (start .args .list .now)))))))

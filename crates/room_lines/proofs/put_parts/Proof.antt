@@ -10,8 +10,11 @@ unfolding partsText
 put-parts-spec =
     tie.close
     (tie.spec (λ c κs. search needs) (λ c κs. search needs) (λ c κs. search needs) (λ c κs. search needs) (λ c κs. search needs) (λ c. search needs)
-    (λ c. then-lays (c .before .before .before .before .before .before .before .before .before .before .before .before .before .before .before .before .before .before .put-next .ensures)
-    (then-lays (c .before .before .before .before .before .before .before .before .before .before .before .before .before .before .put-byte .ensures)
-    (then-lays (c .before .before .before .before .before .before .before .before .before .before .put-decimal .ensures)
-    (then-lays (c .before .before .before .before .before .before .put-byte2 .ensures)
-    (c .before .before .put-decimal2 .ensures))))))
+    (λ c. let after-decimal2 = c .before .before in
+    let after-byte2 = after-decimal2 .before .before .before .before in
+    let after-decimal = after-byte2 .before .before .before .before in
+    let after-byte = after-decimal .before .before .before .before in
+    let after-next = after-byte .before .before .before .before in
+    then-lays (after-next .put-next .ensures)
+    (then-lays (after-byte .put-byte .ensures)
+    (then-lays (after-decimal .put-decimal .ensures) (then-lays (after-byte2 .put-byte2 .ensures) (after-decimal2 .put-decimal2 .ensures))))))

@@ -11,8 +11,16 @@ pub put-record-spec : {M : Type 1} → statement M
 unfolding recordLine recordText keptIn
 put-record-spec =
     tie.close
-    (tie.spec (λ c κs. search needs) (λ c κs. search needs) (λ c κs. search needs) (λ c. search needs) (λ c κs. search needs) (λ c κs. search needs) (λ c. search needs)
-    (λ c. lays-as (then-lays (c .before .before .before .before .before .before .before .before .before .before .before .before .before .before .before .put-opening .ensures)
-    (then-lays (c .before .before .before .before .before .before .before .before .before .before .before .put-kept .ensures)
-    (then-lays (c .before .before .before .before .before .before .put-part .ensures)
-    (c .before .before .put-byte .ensures)))) (rw (c .before .before .before .before .before .before .before .before .before .before .before .before .before .before .before .before .before .lesser .ensures, length-take (c .before .before .before .before .before .before .before .before .before .before .before .before .before .before .before .before .before .before .before .before .args .n) (c .before .before .before .before .before .before .before .before .before .before .before .before .before .before .before .before .before .before .before .before .args .list .now)))))
+    (tie.spec (λ c κs. search needs) (λ c κs. search needs) (λ c κs. search needs) (λ c. search needs) (λ c κs. search needs) (λ c κs. search needs)
+    (λ c. search needs)
+    (λ c. let after-byte = c .before .before in
+    let after-part = after-byte .before .before .before .before in
+    let lent = after-part .before .before .before in
+    let after-kept = lent .before .before in
+    let after-opening = after-kept .before .before .before .before in
+    let after-lesser = after-opening .before .before in
+    let start = after-lesser .before .before .before in
+    lays-as
+    (then-lays (after-opening .put-opening .ensures)
+    (then-lays (after-kept .put-kept .ensures) (then-lays (after-part .put-part .ensures) (after-byte .put-byte .ensures))))
+    (rw (after-lesser .lesser .ensures, length-take (start .args .n) (start .args .list .now)))))

@@ -10,8 +10,12 @@ unfolding roomLines
 put-room-spec =
     tie.close
     (tie.spec (λ c κs. search needs) (λ c κs. search needs) (λ c κs. search needs) (λ c κs. search needs) (λ c κs. search needs) (λ c. search needs)
-    (λ c. then-lays (c .before .before .before .before .before .before .before .before .before .before .before .before .before .before .before .before .before .before .put-event .ensures)
-    (then-lays (c .before .before .before .before .before .before .before .before .before .before .before .before .before .before .put-submitted .ensures)
-    (then-lays (c .before .before .before .before .before .before .before .before .before .before .put-histories .ensures)
-    (then-lays (c .before .before .before .before .before .before .put-counters .ensures)
-    (c .before .before .put-replicas .ensures))))))
+    (λ c. let after-replicas = c .before .before in
+    let after-counters = after-replicas .before .before .before .before in
+    let after-histories = after-counters .before .before .before .before in
+    let after-submitted = after-histories .before .before .before .before in
+    let after-event = after-submitted .before .before .before .before in
+    then-lays (after-event .put-event .ensures)
+    (then-lays (after-submitted .put-submitted .ensures)
+    (then-lays (after-histories .put-histories .ensures)
+    (then-lays (after-counters .put-counters .ensures) (after-replicas .put-replicas .ensures))))))

@@ -10,5 +10,7 @@ unfolding submissionText
 put-submission-spec =
     tie.close
     (tie.spec (λ c κs. search needs) (λ c κs. search needs) (λ c κs. search needs) (λ c. search needs)
-    (λ c. then-lays (c .before .before .before .before .before .before .before .before .before .before .put-next .ensures)
-    (then-lays (c .before .before .before .before .before .before .put-byte .ensures) (c .before .before .put-decimal .ensures))))
+    (λ c. let after-decimal = c .before .before in
+    let after-byte = after-decimal .before .before .before .before in
+    let after-next = after-byte .before .before .before .before in
+    then-lays (after-next .put-next .ensures) (then-lays (after-byte .put-byte .ensures) (after-decimal .put-decimal .ensures))))

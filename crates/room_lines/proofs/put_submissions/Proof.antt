@@ -23,13 +23,20 @@ put-submissions-spec =
     tie.close
     (tie.spec Inv-loop μ-loop (λ c κs. search needs)
     (λ c. (rw (c .lesser .ensures) (omega arith), rest-start _ _ (lines-start _ _)))
-    (λ c. omega arith)
-    (λ c. omega arith) (λ c κs. search needs) (λ c. search needs) (λ c. search needs) (λ c κs. search needs) (λ c. search needs) (λ c. search needs)
-    (λ c. let s = c .before .before .before .before .before .before .before .before .loop in
-    let a = c .before .before .before .before .before .before .before .before .before .before .before .args in (
+    (λ c. omega arith) (λ c. omega arith) (λ c κs. search needs) (λ c. search needs) (λ c. search needs) (λ c κs. search needs) (λ c. search needs)
+    (λ c. search needs)
+    (λ c. let after-submission = c .before .before in
+    let after-wide = after-submission .before .before in
+    let tested = after-wide .before .before .before in
+    let in-loop = tested .before in
+    let after-lesser = in-loop .before in
+    let start = after-lesser .before .before in
+    let s = in-loop .loop in
+    let a = start .args in (
       s .inv .0,
-      rest-next (s .inv .1) {v = submissionAt (a .requests .now) (a .ticks .now) (s .i)} (lines-next (s .i) (c .before .before .before .before .before .before .before .before .before .lesser .result) (submissionAt (a .requests .now) (a .ticks .now)) (c .before .before .before .before .before .before .before .loop-test .taken))
-          (lays-as (c .before .before .put-submission .ensures) (rw (c .before .before .before .before .wide .ensures))),
+      rest-next (s .inv .1) {v = submissionAt (a .requests .now) (a .ticks .now) (s .i)}
+          (lines-next (s .i) (after-lesser .lesser .result) (submissionAt (a .requests .now) (a .ticks .now)) (tested .loop-test .taken))
+          (lays-as (after-submission .put-submission .ensures) (rw (after-wide .wide .ensures))),
     ))
     (λ c. c .before .loop .inv .1 .long)
     (λ c. lays-as (rest-over (c .before .loop .inv .1) (lines-over _ _ _ (c .loop-test .left))) (rw (c .before .before .lesser .ensures))))

@@ -11,6 +11,7 @@ unfolding submittedLine submittedText
 put-submitted-spec =
     tie.close
     (tie.spec (λ c. search needs) (λ c κs. search needs) (λ c κs. search needs) (λ c κs. search needs) (λ c. search needs)
-    (λ c. then-lays (c .before .before .before .before .before .before .before .before .before .before .put-word .ensures)
-    (then-lays (c .before .before .before .before .before .before .put-submissions .ensures)
-    (c .before .before .put-byte .ensures))))
+    (λ c. let after-byte = c .before .before in
+    let after-submissions = after-byte .before .before .before .before in
+    let after-word = after-submissions .before .before .before .before in
+    then-lays (after-word .put-word .ensures) (then-lays (after-submissions .put-submissions .ensures) (after-byte .put-byte .ensures))))

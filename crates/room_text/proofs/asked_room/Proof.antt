@@ -14,11 +14,20 @@ unfolding askedRoom
 asked-room-spec =
     tie.close
     (tie.spec (λ c κs. search needs) (λ c κs. search needs) (λ c κs. search needs) (λ c. search needs)
-    (λ c. let bytes = c .before .before .before .before .before .before .before .before .before .before .args .bytes .now in
-    let word = c .before .before .before .before .before .before .before .before .before .before .args .word .now in
-    lays-as (c .before .before .input-room .ensures)
-    (ap (inputRoom bytes) (c .before .before .before .before .number-asked .ensures)
-    ∙ cut-input bytes (λ i. omega (arith, c .before .before .before .before .before .before .before .before .before .shared-slice-known .given i)) (numberAsked word)
-    ∙ rw (sym (c .before .before .before .before .before .before .is-number .ensures) ∙ c .before .before .before .before .before .if1 .taken)))
+    (λ c. let after-input-room = c .before .before in
+    let after-number-asked = after-input-room .before .before in
+    let tested = after-number-asked .before in
+    let after-is-number = tested .before in
+    let known = after-is-number .before .before .before in
+    let start = known .before in
+    let bytes = start .args .bytes .now in
+    let word = start .args .word .now in
+    lays-as (after-input-room .input-room .ensures)
+    (ap (inputRoom bytes) (after-number-asked .number-asked .ensures)
+    ∙ cut-input bytes (λ i. omega (arith, known .shared-slice-known .given i)) (numberAsked word)
+    ∙ rw (sym (after-is-number .is-number .ensures) ∙ tested .if1 .taken)))
     (λ c. search needs) (λ c κs. search needs) (λ c. search needs)
-    (λ c. lays-as (c .before .before .put-word .ensures) (rw (sym (c .before .before .before .before .before .before .is-number .ensures) ∙ c .before .before .before .before .before .if1 .left))))
+    (λ c. let after-word = c .before .before in
+    let tested = after-word .before .before .before in
+    let after-is-number = tested .before in
+    lays-as (after-word .put-word .ensures) (rw (sym (after-is-number .is-number .ensures) ∙ tested .if1 .left))))

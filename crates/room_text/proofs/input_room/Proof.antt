@@ -11,6 +11,11 @@ unfolding inputRoom
 input-room-spec =
     tie.close
     (tie.spec (λ c κs. search needs) (λ c κs. search needs) (λ c. search needs)
-    (λ c. lays-as (c .before .before .put-kit .ensures) (rw (c .before .before .before .before .number-of-kit .ensures, lt-ltb _ _ (c .before .before .before .before .before .if1 .taken))))
+    (λ c. let after-kit = c .before .before in
+    let after-number-of-kit = after-kit .before .before in
+    let tested = after-number-of-kit .before in
+    lays-as (after-kit .put-kit .ensures) (rw (after-number-of-kit .number-of-kit .ensures, lt-ltb _ _ (tested .if1 .taken))))
     (λ c κs. search needs) (λ c. search needs)
-    (λ c. lays-as (c .before .before .printed-room .ensures .0) (rw (le-ltb _ _ (c .before .before .before .before .if1 .left)))))
+    (λ c. let after-printed-room = c .before .before in
+    let tested = after-printed-room .before .before in
+    lays-as (after-printed-room .printed-room .ensures .0) (rw (le-ltb _ _ (tested .if1 .left)))))

@@ -19,15 +19,17 @@ abbrev μ-loop : tie.MeasureT-loop
 returns : tie.Need-returns Inv-loop μ-loop
 unfolding isNumber
 returns c =
-    let s = c .before .before .before .before .loop in
-    let w = c .before .before .before .before .before .before .args .word .now in
+    let in-loop = c .before .before .before .before in
+    let s = in-loop .loop in
+    let w = in-loop .before .before .args .word .now in
     let bad = sym (c .before .is-digit .ensures) ∙ not-true (c .before .is-digit .result) (c .if1 .taken) in
     rw (s .inv ∙ digits-from w (s .i) (search needs), bad)
 
 loop-again : tie.Need-loop-again Inv-loop μ-loop
 loop-again c =
-    let s = c .before .before .before .before .loop in
-    let w = c .before .before .before .before .before .before .args .word .now in
+    let in-loop = c .before .before .before .before in
+    let s = in-loop .loop in
+    let w = in-loop .before .before .args .word .now in
     let good = sym (c .before .is-digit .ensures) ∙ not-false (c .before .is-digit .result) (c .if1 .left) in
     s .inv ∙ digits-from w (s .i) (search needs) ∙ rw good
 
@@ -40,4 +42,5 @@ returns-2 c =
 pub is-number-spec : {M : Type 1} → statement M
 is-number-spec =
     tie.close
-    (tie.spec Inv-loop μ-loop (λ c. refl) (λ c. search needs) (λ c κs. search needs) returns (λ c. search needs) (λ c. search needs) loop-again returns-2)
+    (tie.spec Inv-loop μ-loop (λ c. refl) (λ c. search needs) (λ c κs. search needs) returns (λ c. search needs) (λ c. search needs) loop-again
+    returns-2)

@@ -17,8 +17,9 @@ abbrev μ-loop : tie.MeasureT-loop
 
 loop-again : tie.Need-loop-again Inv-loop μ-loop
 loop-again c =
-    let s = c .before .before .before .loop in
-    let w = c .before .before .before .before .before .args .word .now in
+    let in-loop = c .before .before .before in
+    let s = in-loop .loop in
+    let w = in-loop .before .before .args .word .now in
     let e = c .with-digit .ensures in (
       omega (arith, e),
       s .inv .1 ∙ ap (λ (m : ℕ). min m askedMax) (asked-from (s .n) w (s .i) (search needs))
@@ -36,4 +37,5 @@ returns c =
 pub number-asked-spec : {M : Type 1} → statement M
 number-asked-spec =
     tie.close
-    (tie.spec Inv-loop μ-loop (λ c. (omega arith, refl)) (λ c. search needs) (λ c κs. search needs) (λ c. search needs) (λ c. search needs) loop-again returns)
+    (tie.spec Inv-loop μ-loop (λ c. (omega arith, refl)) (λ c. search needs) (λ c κs. search needs) (λ c. search needs) (λ c. search needs) loop-again
+    returns)

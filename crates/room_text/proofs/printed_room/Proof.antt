@@ -13,6 +13,22 @@ unfolding printedRoom
 printed-room-spec =
     tie.close
     (tie.spec (λ c κs. search needs) (λ c κs. search needs) (λ c κs. search needs) (λ c κs. search needs) (λ c. search needs)
-    (λ c. (lays-as (c .before .before .put-moment .ensures) (rw (← c .before .before .before .before .before .before .before .check .ensures, ← c .before .before .before .before .before .before .number-of-kit .ensures, eq-eqb _ _ (c .before .before .before .before .before .if1 .taken), c .before .before .before .before .«open» .ensures)), ends-within (c .before .before .put-moment .ensures) (omega arith)))
+    (λ c. let after-moment = c .before .before in
+    let after-open = after-moment .before .before in
+    let tested = after-open .before in
+    let after-number-of-kit = tested .before in
+    let after-check = after-number-of-kit .before in (
+      lays-as (after-moment .put-moment .ensures)
+          (rw (← after-check .check .ensures, ← after-number-of-kit .number-of-kit .ensures)
+          (rw (eq-eqb _ _ (tested .if1 .taken), after-open .«open» .ensures))),
+      ends-within (after-moment .put-moment .ensures) (omega arith),
+    ))
     (λ c κs. search needs) (λ c. search needs)
-    (λ c. (lays-as (c .before .before .put-kit .ensures) (rw (← c .before .before .before .before .before .before .check .ensures, ← c .before .before .before .before .before .number-of-kit .ensures, ne-eqb _ _ (c .before .before .before .before .if1 .left))), ends-within (c .before .before .put-kit .ensures) (omega arith))))
+    (λ c. let after-kit = c .before .before in
+    let tested = after-kit .before .before in
+    let after-number-of-kit = tested .before in
+    let after-check = after-number-of-kit .before in (
+      lays-as (after-kit .put-kit .ensures)
+          (rw (← after-check .check .ensures, ← after-number-of-kit .number-of-kit .ensures, ne-eqb _ _ (tested .if1 .left))),
+      ends-within (after-kit .put-kit .ensures) (omega arith),
+    )))

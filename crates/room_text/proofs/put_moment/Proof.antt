@@ -11,6 +11,10 @@ unfolding momentText
 put-moment-spec =
     tie.close
     (tie.spec (λ c κs. search needs) (λ c. search needs)
-    (λ c. lays-as (c .before .before .put-past .ensures) (rw (lt-ltb _ _ (c .before .before .before .before .if1 .taken))))
+    (λ c. let after-past = c .before .before in
+    let tested = after-past .before .before in
+    lays-as (after-past .put-past .ensures) (rw (lt-ltb _ _ (tested .if1 .taken))))
     (λ c κs. search needs) (λ c. search needs)
-    (λ c. lays-as (c .before .before .put-played .ensures) (rw (le-ltb _ _ (c .before .before .before .before .if1 .left)))))
+    (λ c. let after-played = c .before .before in
+    let tested = after-played .before .before in
+    lays-as (after-played .put-played .ensures) (rw (le-ltb _ _ (tested .if1 .left)))))

@@ -12,6 +12,15 @@ unfolding programRoom
 room-input-spec =
     tie.close
     (tie.spec (λ c κs. search needs) (λ c. search needs)
-    (λ c. (lays-as (c .before .before .asked-room .ensures) (rw (c .before .before .before .before .if1 .taken)), ends-within (c .before .before .asked-room .ensures) (omega arith)))
+    (λ c. let after-asked-room = c .before .before in
+    let tested = after-asked-room .before .before in (
+      lays-as (after-asked-room .asked-room .ensures) (rw (tested .if1 .taken)),
+      ends-within (after-asked-room .asked-room .ensures) (omega arith),
+    ))
     (λ c κs. search needs) (λ c κs. search needs) (λ c. search needs)
-    (λ c. (lays-as (c .before .before .input-room .ensures) (rw (c .before .before .before .before .before .if1 .left, c .before .before .before .before .«open» .ensures)), ends-within (c .before .before .input-room .ensures) (omega arith))))
+    (λ c. let after-input-room = c .before .before in
+    let after-open = after-input-room .before .before in
+    let tested = after-open .before in (
+      lays-as (after-input-room .input-room .ensures) (rw (tested .if1 .left, after-open .«open» .ensures)),
+      ends-within (after-input-room .input-room .ensures) (omega arith),
+    )))

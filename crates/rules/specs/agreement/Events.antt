@@ -124,7 +124,8 @@ next-panic kit r a e x t =
     (λ f. grows-open kit x v (t .correct) (halt-correct p) op (halt-open p)
     (rw (halt-settled kit x p (agTotal r x)) λ i q z. z))
 
-next-file : (kit : Kit) (r : Room) → Invariant kit r → (j n : ℕ) (l : List ℕ) → FilingBounds (record { j = j; k = n; list = l }) → Next kit r (afterFile r j n l)
+next-file : (kit : Kit) (r : Room) → Invariant kit r → (j n : ℕ) (l : List ℕ) → FilingBounds (record { j = j; k = n; list = l })
+    → Next kit r (afterFile r j n l)
 unfolding afterFile
 next-file kit r a j n l h = next-still kit 0 a (moved-file (moved-none r 0) (record { j = j; k = n; list = l }) (suc (r .filed)) h)
 

@@ -175,7 +175,9 @@ module _ (kit : Kit) (roles : Roles kit) (r : Room) (a : Invariant kit r) (fs : 
         );
       }
 
-  moved : Moved r (afterBuild r (switchLeader kit) (built kit r)) (switchLeader kit) (hold builder number) (ags ++ (History number ∷ [])) (ups ++ (History number ∷ []))
+  moved
+      : Moved r (afterBuild r (switchLeader kit) (built kit r)) (switchLeader kit) (hold builder number) (ags ++ (History number ∷ []))
+      (ups ++ (History number ∷ []))
   unfolding afterBuild issue withReplica withHistory
   moved =
       moved-sw (moved-up (moved-ag (moved-record (moved-file (moved-none r (switchLeader kit)) (built kit r) (r .filed) fits) (hold builder number))

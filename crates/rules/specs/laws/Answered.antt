@@ -68,7 +68,8 @@ unfolding answered answeredAt
 has-answered kit ro r request a =
     let own = a .same (kit .leader) (ro .active-listed (kit .leader) (ro .leader-active)) in
     any-at (length (r .counter (kit .leader) up)) (λ i. answeredAt kit r request (suc i)) (a .i) (nth-lt (r .counter (kit .leader) up) (a .i) own)
-    (all-from (actives kit) _ (λ y h. isContent-self {o = nth (r .counter y up) (a .i)} (a .same y h ∙ ap (λ (c : Option Content). some (Update request (secondOf c))) (sym own))))
+    (all-from (actives kit) _ (λ y h. isContent-self {o = nth (r .counter y up) (a .i)}
+    (a .same y h ∙ ap (λ (c : Option Content). some (Update request (secondOf c))) (sym own))))
 
 -- ---- it goes by what is issued alone
 
@@ -85,7 +86,8 @@ answered-late kit r late request = refl
 -- ---- it stays
 
 answeredAt-stays
-    : (kit : Kit) (r r₁ : Room) → Grows r r₁ → (request i : ℕ) → i < length (r .counter (kit .leader) up) → answeredAt kit r request (suc i) ≡ true → answeredAt kit r₁ request (suc i) ≡ true
+    : (kit : Kit) (r r₁ : Room) → Grows r r₁ → (request i : ℕ) → i < length (r .counter (kit .leader) up)
+    → answeredAt kit r request (suc i) ≡ true → answeredAt kit r₁ request (suc i) ≡ true
 unfolding answeredAt
 answeredAt-stays kit r r₁ g request i l e =
     let own = nth-in (r .counter (kit .leader) up) i l in

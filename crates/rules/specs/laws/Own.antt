@@ -148,23 +148,25 @@ module _ (kit : Kit) (r r₁ : Room) (sender name value to : ℕ) (w : SeesSame 
   decide-sees = rw (w .content, w .own-record, w .submitted)
 
   -- and the same is done
+  same : Alike to r r₁ r r₁
+  same = alike-none (w .own-record) (w .own-counter)
+
   acted-sees : (act : Act) → Alike to r r₁ (acted kit r to act) (acted kit r₁ to act)
   unfolding acted afterPrepare afterCommit afterUpdate afterSwitch afterHand afterPanic
-  acted-sees (Act.Prepare sender value request) = rw (w .own-record, w .own-counter) (alike-settled _ _ _ (alike-issued ag _ (alike-none (w .own-record) (w .own-counter))))
-  acted-sees (Act.Commit sender value) = rw (w .own-record, w .own-counter) (alike-settled _ _ _ (alike-none (w .own-record) (w .own-counter)))
-  acted-sees (Act.KnownPair sender value) = rw (w .own-record) (alike-recorded _ (alike-none (w .own-record) (w .own-counter)))
-  acted-sees (Act.NewPair sender value request mark) = rw (w .own-record) (alike-recorded _ (alike-none (w .own-record) (w .own-counter)))
+  acted-sees (Act.Prepare sender value request) = rw (w .own-record, w .own-counter) (alike-settled _ _ _ (alike-issued ag _ same))
+  acted-sees (Act.Commit sender value) = rw (w .own-record, w .own-counter) (alike-settled _ _ _ same)
+  acted-sees (Act.KnownPair sender value) = rw (w .own-record) (alike-recorded _ same)
+  acted-sees (Act.NewPair sender value request mark) = rw (w .own-record) (alike-recorded _ same)
   acted-sees (Act.Switch sender value) =
-      let same = alike-none (w .own-record) (w .own-counter) in
       let p = accept (r .replica to) sender sw value in
       rw (w .own-record, held-same r r₁ (w .histories) (p .held)) (alike-pick (leb (kit .f) (switches kit p)) (alike-recorded _ same) (alike-recorded _ same))
-  acted-sees (Act.Hand history) = rw (w .own-record) (alike-issued sw _ (alike-recorded _ (alike-none (w .own-record) (w .own-counter))))
-  acted-sees Act.Panic = rw (w .own-record) (alike-recorded _ (alike-none (w .own-record) (w .own-counter)))
+  acted-sees (Act.Hand history) = rw (w .own-record) (alike-issued sw _ (alike-recorded _ same))
+  acted-sees Act.Panic = rw (w .own-record) (alike-recorded _ same)
 
-  done-sees : (list : List ℕ) (d : Decision) → Tested kit r (Deliver sender name value to) to d → SameOutcome to r r₁ (done kit r to list d) (done kit r₁ to list d)
+  done-sees : (list : List ℕ) (d : Decision) → Tested kit r (Deliver sender name value to) to d
+      → SameOutcome to r r₁ (done kit r to list d) (done kit r₁ to list d)
   unfolding carryOut
   done-sees list (Decision.Refuse answer) t =
-      let same = alike-none (w .own-record) (w .own-counter) in
       record { answer = refl; becomes = same .becomes; room = same .room; room₁ = same .room₁ }
   done-sees list (Decision.Submit request) t = no-way (cc (t .event))
   done-sees list (Decision.Issue x name content) t = no-way (cc (t .event))
@@ -173,6 +175,8 @@ module _ (kit : Kit) (r r₁ : Room) (sender name value to : ℕ) (w : SeesSame 
   done-sees list (Decision.Build j k) t = no-way (cc (t .event))
   done-sees list (Decision.File j k) t = no-way (cc (t .event))
 
-  pub same-delivery : (list : List ℕ) → SameOutcome to r r₁ (onEvent kit r (Deliver sender name value to) list) (onEvent kit r₁ (Deliver sender name value to) list)
+  pub same-delivery
+      : (list : List ℕ)
+      → SameOutcome to r r₁ (onEvent kit r (Deliver sender name value to) list) (onEvent kit r₁ (Deliver sender name value to) list)
   unfolding onEvent concerned
   same-delivery list = rw decide-sees (done-sees list (decide kit r (Deliver sender name value to)) (tested kit r (Deliver sender name value to)))

@@ -35,12 +35,6 @@ use Rattle.rules.specs.Deliver.{decideContent, decideReceive, decideDeli
 use Rattle.rules.specs.Switching.{built, decidePanic, decideBuild, isValidFiling, decideHold, decideHand}
 use Rattle.rules.specs.Decide.{concerned, decide}
 
--- down a chain of refusals: what holds of each refusal, and of what follows where its test fails, holds of the whole
-pub unless : (P : Decision → Type 0) → ((a : Answer) → P (Decision.Refuse a)) → (t : Bool) (a : Answer) (d : Decision) → (t ≡ false → P d) → P (refuseIf t a d)
-unfolding refuseIf
-unless P stays true a d f = stays a
-unless P stays false a d f = f refl
-
 pub none-of : (o : Option ℕ) → isSome o ≡ false → o ≡ none
 none-of none e = refl
 none-of (some n) e = no-way (cc)
@@ -163,14 +157,19 @@ module _ (kit : Kit) (r : Room) (e : Event) (x : ℕ) where
 -- ---- the law
 
 module _ (kit : Kit) (r : Room) where
+  -- down a chain of refusals: of what follows a test it is known that the test failed
   past : (e : Event) (x : ℕ) (t : Bool) (a : Answer) (d : Decision) → (t ≡ false → Tested kit r e x d) → Tested kit r e x (refuseIf t a d)
-  past e x = unless (Tested kit r e x) (λ a. omega arith)
+  unfolding refuseIf
+  past e x true a d f = omega arith
+  past e x false a d f = f refl
 
   module _ (sender value to : ℕ) where
     abbrev on : ℕ → Event
     on name = Event.Deliver sender name value to
 
-    tested-ag : Delivered kit r (on ag) to sender ag value → Tested kit r (on ag) to (decideAg (sightOf kit r to) sender value (contentAt (r .counter sender ag) value))
+    tested-ag
+        : Delivered kit r (on ag) to sender ag value
+        → Tested kit r (on ag) to (decideAg (sightOf kit r to) sender value (contentAt (r .counter sender ag) value))
     unfolding decideAg decidePrepare decideCommit
     tested-ag given =
         let content = contentAt (r .counter sender ag) value in
@@ -199,7 +198,9 @@ module _ (kit : Kit) (r : Room) where
           content = isContent-same content commit (and-r few (isContent content commit) w);
         })
 
-    tested-up : Delivered kit r (on up) to sender up value → Tested kit r (on up) to (decideUp (sightOf kit r to) sender value (contentAt (r .counter sender up) value))
+    tested-up
+        : Delivered kit r (on up) to sender up value
+        → Tested kit r (on up) to (decideUp (sightOf kit r to) sender value (contentAt (r .counter sender up) value))
     unfolding decideUp decidePair decideUpdate
     tested-up given =
         let content = contentAt (r .counter sender up) value in

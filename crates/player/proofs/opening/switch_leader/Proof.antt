@@ -3,10 +3,10 @@ use mathlib.Core.Path.{refl, sym, _∙_}
 use Prim.Native.Nat.{_-_}
 use lib.ListN.{length}
 use borrow.Author.Needs.{needs}
-use Rattle.decide.specs.Decided.{switchLeaderOf}
-use Rattle.decide.proofs.Seeking.{Seeking, found, is-leader, is-passive, none-found}
-use Rattle.decide.proofs.switch_leader.Statement.{statement}
-use Rattle.decide.proofs.switch_leader.Tie as tie
+use Rattle.player.specs.Opening.{switchLeaderOf}
+use Rattle.player.proofs.Seeking.{Seeking, found, is-leader, is-passive, none-found}
+use Rattle.player.proofs.opening.switch_leader.Statement.{statement}
+use Rattle.player.proofs.opening.switch_leader.Tie as tie
 
 abbrev Inv-loop : tie.InvT-loop
 Inv-loop table leader entries x₀ x = Seeking table leader x

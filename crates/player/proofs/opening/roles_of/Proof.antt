@@ -1,8 +1,8 @@
 -- `roles_of`: the switch leader is the one that is looked for. Assumes nothing.
 use borrow.Author.Needs.{needs}
-use Rattle.played.specs.Fresh.{rolesIn}
-use Rattle.played.proofs.roles_of.Statement.{statement}
-use Rattle.played.proofs.roles_of.Tie as tie
+use Rattle.player.specs.Opening.{rolesIn}
+use Rattle.player.proofs.opening.roles_of.Statement.{statement}
+use Rattle.player.proofs.opening.roles_of.Tie as tie
 
 pub roles-of-spec : {M : Type 1} → statement M
 unfolding rolesIn
