@@ -6,6 +6,8 @@ use mathlib.Core.List.{List}
 use Prim.Native.Nat.{ℕ, _≤_, _<_, min}
 use native.Mathlib.Omega.{arith}
 use lib.ListN.{length}
+use Rattle.terms.specs.Limits.{eventsMax, replicasMax}
+use Rattle.terms.specs.Lent.{Clocks, Answers}
 use Rattle.terms.specs.Lists.{pick}
 use Rattle.terms.specs.Kit.{Kit}
 use Rattle.rules.specs.Room.{Room, freshReplica}
@@ -41,7 +43,7 @@ unfolding layReplica
 condition-said p = refl
 
 module _ (kit : Kit) (r : Room) (b : Bounds kit r) where
-  replica-said : (x : ℕ) → x < 7
+  replica-said : (x : ℕ) → x < replicasMax
       → replicaLine (kit .leader) (layTable kit) (layHeads (r .histories)) (layLists (r .histories)) (layIssued (r .counter)) x (layReplica (r .replica x))
       ≡ replicaSaid kit r x
   unfolding replicaLine replicaSaid
@@ -53,26 +55,26 @@ module _ (kit : Kit) (r : Room) (b : Bounds kit r) where
       ≡ linesFrom 0 (length (kit .table)) (replicaSaid kit r)
   unfolding replicaLines layRoles
   replicas-said =
-      let m : min (length (kit .table)) 7 ≡ length (kit .table) = omega (arith, (size-max (b .good))) in
+      let m : min (length (kit .table)) replicasMax ≡ length (kit .table) = omega (arith, (size-max (b .good))) in
       rw m
       (lines-ext (length (kit .table)) 0 _ _
-      (λ x h. let below : x < 7 = omega (arith, h, (size-max (b .good))) in rw (replica-laid (r .replica) x _ below) (replica-said x below)))
+      (λ x h. let below : x < replicasMax = omega (arith, h, (size-max (b .good))) in rw (replica-laid (r .replica) x _ below) (replica-said x below)))
 
-pub events-said : (kit : Kit) (n : ℕ) → n ≤ 4096 → (clocks answers : List ℕ) → Says kit n clocks answers
+pub events-said : (kit : Kit) (n : ℕ) → n ≤ eventsMax → (clocks : Clocks) (answers : Answers) → Says kit n clocks answers
     → eventLines clocks answers n ≡ linesFrom 0 n (eventSaid kit)
 unfolding eventLines eventSaid
 events-said kit n small clocks answers s =
-    let m : min n 4096 ≡ n = omega (arith, small) in
+    let m : min n eventsMax ≡ n = omega (arith, small) in
     rw m
     (lines-ext n 0 _ _
     (λ k h. let below : k < n = omega (arith, h) in rw (s .clock k below, s .answer k below)))
 
 -- the lines of a kit's play, from the parts that the player keeps
-abbrev pub partsLines : Kit → ℕ → List ℕ → List ℕ → Parts → List ℕ
+abbrev pub partsLines : Kit → ℕ → Clocks → Answers → Parts → List ℕ
 partsLines kit n clocks answers p =
     playLines clocks answers n (p .desk) (p .replicas) (layRoles kit) (layTable kit) (p .heads) (p .lists) (p .issued)
 
-pub play-said : (kit : Kit) (n : ℕ) → n ≤ 4096 → Bounds kit (after kit n) → (clocks answers : List ℕ) → Says kit n clocks answers
+pub play-said : (kit : Kit) (n : ℕ) → n ≤ eventsMax → Bounds kit (after kit n) → (clocks : Clocks) (answers : Answers) → Says kit n clocks answers
     → (known : ℕ) → partsLines kit n clocks answers (layRoom (after kit n) known) ≡ textAfter kit n
 unfolding playLines textAfter roomSaid layRoom layDesk
 play-said kit n small b clocks answers s known = rw (events-said kit n small clocks answers s, replicas-said kit (after kit n) b)

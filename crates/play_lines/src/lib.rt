@@ -1,41 +1,23 @@
 // The printed play: one line for each event, one for each replica, and the late tick; and the line of a refused kit. What no longer fits
 // into the lent buffer is left out, and the place that is given back is then the buffer's end: a text that ends before it is whole.
-ghost use mathlib.Core.Path.{_≡_};
 ghost use lib.ListN.{take};
-ghost use Prim.Native.Nat.{min};
 ghost use Rattle.terms.specs.Numbers.{conditionWord};
 ghost use Rattle.text.specs.Text.{Lays};
 ghost use Rattle.play_lines.specs.Lines.{spaced, requestsText, eventLine, replicaName, settledLine, lateText, kitLine};
 ghost use Rattle.play_lines.specs.PlayLines.{replicaLine, replicaLines, eventLines, playLines};
 use ledger::Issued;
 use replica::Replica;
+use replica::Replicas;
 use room::Desk;
 use room::Roles;
+use terms::Answers;
+use terms::Clocks;
 use terms::Condition;
-
-// A number of 32 bits as one of 64.
-pub fn wide(n: u32) -> u64
-    ensures { λ r. ⌜ r ≡ n ⌝ }
-{
-    n as u64
-}
-
-// A count as a number.
-pub fn long(n: usize) -> u64
-    ensures { λ r. ⌜ r ≡ n ⌝ }
-{
-    n as u64
-}
-
-// The lesser of two counts.
-pub fn lesser(a: usize, b: usize) -> usize
-    ensures { λ r. ⌜ r ≡ min a b ⌝ }
-{
-    if a < b {
-        return a;
-    }
-    b
-}
+use terms::EVENTS;
+use terms::Heads;
+use terms::Lists;
+use terms::REPLICAS;
+use terms::Table;
 
 // A number after a space.
 pub fn put_next(out: &mut [u8], at: usize, n: u64) -> usize
@@ -50,7 +32,7 @@ pub fn put_kit(out: &mut [u8], at: usize, number: u32) -> usize
     ensures { λ r. ⌜ Lays (now (out .entry)) at (kitLine number) r (now (out .exit)) ⌝ }
 {
     let a = text::put_word(out, at, b"kit");
-    let b = put_next(out, a, wide(number));
+    let b = put_next(out, a, terms::wide(number));
     text::put_byte(out, b, 10)
 }
 
@@ -67,20 +49,20 @@ fn put_event(out: &mut [u8], at: usize, number: u64, clock: u64, answer: u64) ->
 }
 
 // The lines of the first n events, of 4,096 at the most.
-fn put_events(
-    out: &mut [u8],
-    at: usize,
-    clocks: &[u64; 4096],
-    answers: &[u32; 4096],
-    n: usize,
-) -> usize
+fn put_events(out: &mut [u8], at: usize, clocks: &Clocks, answers: &Answers, n: usize) -> usize
     ensures { λ r. ⌜ Lays (now (out .entry)) at (eventLines (now (clocks .entry)) (now (answers .entry)) n) r (now (out .exit)) ⌝ }
 {
-    let count = lesser(n, 4096);
+    let count = terms::lesser(n, EVENTS);
     let mut place = at;
     let mut k: usize = 0;
     while k < count {
-        place = put_event(out, place, long(k + 1), clocks[k], wide(answers[k]));
+        place = put_event(
+            out,
+            place,
+            terms::long(k + 1),
+            clocks[k],
+            terms::wide(answers[k]),
+        );
         k = k + 1;
     }
     place
@@ -107,7 +89,7 @@ fn put_requests(out: &mut [u8], at: usize, list: &[u32]) -> usize
     let mut place = at;
     let mut i: usize = 0;
     while i < list.len() {
-        place = put_next(out, place, wide(list[i]));
+        place = put_next(out, place, terms::wide(list[i]));
         i = i + 1;
     }
     place
@@ -118,7 +100,7 @@ pub fn put_name(out: &mut [u8], at: usize, x: usize, condition: Condition) -> us
     ensures { λ r. ⌜ Lays (now (out .entry)) at (replicaName x condition) r (now (out .exit)) ⌝ }
 {
     let a = text::put_word(out, at, b"replica");
-    let b = put_next(out, a, long(x));
+    let b = put_next(out, a, terms::long(x));
     let c = text::put_byte(out, b, 32);
     put_condition(out, c, condition)
 }
@@ -135,8 +117,8 @@ fn put_settled(
     ensures { λ r. ⌜ Lays (now (out .entry)) at (settledLine x condition mark (now (list .entry))) r (now (out .exit)) ⌝ }
 {
     let a = put_name(out, at, x, condition);
-    let b = put_next(out, a, long(list.len()));
-    let c = put_next(out, b, wide(mark));
+    let b = put_next(out, a, terms::long(list.len()));
+    let c = put_next(out, b, terms::wide(mark));
     let d = put_requests(out, c, list);
     text::put_byte(out, d, 10)
 }
@@ -153,7 +135,7 @@ fn put_first(
 ) -> usize
     ensures { λ r. ⌜ Lays (now (out .entry)) at (settledLine x condition mark (take n (now (list .entry)))) r (now (out .exit)) ⌝ }
 {
-    let m = lesser(n, list.len());
+    let m = terms::lesser(n, list.len());
     put_settled(out, at, x, condition, mark, &list[..m])
 }
 
@@ -164,9 +146,9 @@ fn put_replica(
     x: usize,
     p: Replica,
     leader: usize,
-    table: &[u32; 7],
-    heads: &[[usize; 3]; 8],
-    lists: &[[u32; 64]; 8],
+    table: &Table,
+    heads: &Heads,
+    lists: &Lists,
     issued: &Issued,
 ) -> usize
     ensures { λ r. ⌜ Lays (now (out .entry)) at (replicaLine leader (now (table .entry)) (now (heads .entry)) (now (lists .entry)) (now (issued .entry)) x p) r (now (out .exit)) ⌝ }
@@ -182,17 +164,17 @@ fn put_replica(
 fn put_replicas(
     out: &mut [u8],
     at: usize,
-    replicas: [Replica; 7],
+    replicas: Replicas,
     roles: Roles,
-    table: &[u32; 7],
-    heads: &[[usize; 3]; 8],
-    lists: &[[u32; 64]; 8],
+    table: &Table,
+    heads: &Heads,
+    lists: &Lists,
     issued: &Issued,
 ) -> usize
     ensures { λ r. ⌜ Lays (now (out .entry)) at (replicaLines replicas roles (now (table .entry)) (now (heads .entry)) (now (lists .entry)) (now (issued .entry))) r (now (out .exit)) ⌝ }
 {
     let leader = roles.leader;
-    let count = lesser(roles.size, 7);
+    let count = terms::lesser(roles.size, REPLICAS);
     let mut place = at;
     let mut x: usize = 0;
     while x < count {
@@ -220,15 +202,15 @@ pub fn put_late(out: &mut [u8], at: usize, late: bool, due: u64) -> usize
 // The play of the first n events, from the buffer's start: events, replicas, late tick.
 pub fn put_play(
     out: &mut [u8],
-    clocks: &[u64; 4096],
-    answers: &[u32; 4096],
+    clocks: &Clocks,
+    answers: &Answers,
     n: usize,
     desk: Desk,
-    replicas: [Replica; 7],
+    replicas: Replicas,
     roles: Roles,
-    table: &[u32; 7],
-    heads: &[[usize; 3]; 8],
-    lists: &[[u32; 64]; 8],
+    table: &Table,
+    heads: &Heads,
+    lists: &Lists,
     issued: &Issued,
 ) -> usize
     ensures { λ r. ⌜ Lays (now (out .entry)) 0 (playLines (now (clocks .entry)) (now (answers .entry)) n desk replicas roles (now (table .entry)) (now (heads .entry)) (now (lists .entry)) (now (issued .entry))) r (now (out .exit)) ⌝ }

@@ -1,6 +1,6 @@
 -- Laws of Views: the text of a play from what its steps promise; and of bytes that spell a kit it is, in either view, what the rules say.
 -- Assumes nothing.
-use mathlib.Core.Path.{_≡_}
+use mathlib.Core.Path.{_≡_, ap, _∙_}
 use mathlib.Core.List.{List}
 use Prim.Native.Nat.{ℕ, _≤_}
 use native.Mathlib.Omega.{arith}
@@ -46,8 +46,10 @@ pub view-played : (view : View) (bytes : List ℕ) (kit : Kit) → GoodKit kit �
     → viewText view bytes s n ≡ viewSaid view kit n
 unfolding viewText
 view-played view bytes kit good s opens n fits =
-    rw (opens .roles, opens .table)
-    (view-said view kit n (omega (arith, fits, good .event-count)) (reached kit good n) (playedFrom bytes s n) (plays-first bytes kit good s opens n fits))
+    let o = playedFrom bytes s n in
+    ap (λ (roles : Roles). viewLines view roles (s .table) n o) (opens .roles)
+    ∙ ap (λ (table : List ℕ). viewLines view (layRoles kit) table n o) (opens .table)
+    ∙ view-said view kit n (omega (arith, fits, good .event-count)) (reached kit good n) o (plays-first bytes kit good s opens n fits)
 
 -- bytes that spell a kit
 pub view-printed : (view : View) (bytes : List ℕ) (kit : Kit) → Spells bytes kit → (n : ℕ) → n ≤ length (kit .events)

@@ -5,10 +5,11 @@ use mathlib.Core.List.{List, []}
 use Prim.Native.Nat.{ℕ, min}
 use lib.ListN.{getD, take, replicate}
 use lib.Dec.{ltb}
+use Rattle.terms.specs.Limits.{requestsMax, historiesMax, ag}
+use Rattle.terms.specs.Lent.{Table, Heads, Lists}
 use Rattle.terms.specs.Lists.{pick}
 use Rattle.terms.specs.declared.Condition.{Condition}
 use Rattle.terms.specs.declared.Condition.the-variants.{Running, Halted, Closed, Faulty}
-use Rattle.rules.specs.Table.{ag}
 use Rattle.rules.specs.Reading.{isFaulty}
 use Rattle.ledger.specs.Ledger.{totalOf}
 use Rattle.replica.specs.declared.Replica.{Replica}
@@ -16,21 +17,21 @@ use Rattle.replica.specs.Record.{freshRecord, settledIn}
 use Rattle.room.specs.declared.settled.Settled.{Settled}
 
 abbrev pub nothingSettled : Settled
-nothingSettled = record { requests = replicate 64 0; count = 0 }
+nothingSettled = record { requests = replicate requestsMax 0; count = 0 }
 
 -- a replica that has not closed: the first of its noted requests
-unfoldable pub notedSettled : ℕ → List ℕ → List ℕ → ℕ → Replica → Settled
+unfoldable pub notedSettled : ℕ → Table → List ℕ → ℕ → Replica → Settled
 notedSettled leader table issued x p =
     record { requests = p .noted; count = min (settledIn (p .accepted) table leader x (totalOf issued x ag)) (p .count) }
 
 -- a closed one: the whole list of the history that it holds
-unfoldable pub heldSettled : List (List ℕ) → List (List ℕ) → Replica → Settled
+unfoldable pub heldSettled : Heads → Lists → Replica → Settled
 heldSettled heads lists p =
     pick (p .holding)
-    (pick (ltb (p .held) 8) (record { requests = getD lists (p .held) []; count = getD (getD heads (p .held) []) 2 0 }) nothingSettled)
+    (pick (ltb (p .held) historiesMax) (record { requests = getD lists (p .held) []; count = getD (getD heads (p .held) []) 2 0 }) nothingSettled)
     nothingSettled
 
-module _ (leader : ℕ) (table : List ℕ) (heads lists : List (List ℕ)) (issued : List ℕ) (x : ℕ) (p : Replica) where
+module _ (leader : ℕ) (table : Table) (heads : Heads) (lists : Lists) (issued : List ℕ) (x : ℕ) (p : Replica) where
   -- by its condition: a faulty one has settled nothing
   abbrev pub settledBy : Condition → Settled
   settledBy Running = notedSettled leader table issued x p

@@ -12,13 +12,13 @@ use lib.ListN.{length, getD, take}
 use lib.Seq.{take-all, take-length}
 use lib.Dec.{ltb}
 use borrow.Author.Tests.{ltb-true, lt-ltb}
+use Rattle.terms.specs.Limits.{replicasMax, requestsMax, historiesMax, ag}
 use Rattle.terms.specs.Lists.{pick, nth, isSome}
 use Rattle.terms.specs.ListLaws.{split, nth-lt}
 use Rattle.terms.specs.Kit.{Kit}
 use Rattle.terms.specs.Padding.{take-pad, take-pad-le}
 use Rattle.terms.specs.declared.Condition.{Condition}
 use Rattle.terms.specs.declared.Condition.the-variants.{Running, Halted, Closed, Faulty}
-use Rattle.rules.specs.Table.{ag}
 use Rattle.rules.specs.Room.{Room, Filing, freshReplica}
 use Rattle.rules.specs.Room as Rules
 use Rattle.rules.specs.Reading.{isFaulty, settledCount, settledNoted, listOf, heldList, settled}
@@ -51,10 +51,10 @@ nothing-shown = refl
 -- the first so many of the requests that are noted
 first-noted : (p : Rules.Replica) (c : ℕ) → take (min c (layReplica p .count)) (layReplica p .noted) ≡ take c (p .noted)
 unfolding layReplica
-first-noted p c = take-pad-le 64 (min c (length (p .noted))) (p .noted) (omega arith) ∙ take-least c (p .noted)
+first-noted p c = take-pad-le requestsMax (min c (length (p .noted))) (p .noted) (omega arith) ∙ take-least c (p .noted)
 
 module _ (kit : Kit) (r : Room) (b : Bounds kit r) where
-  count-laid : (x : ℕ) → x < 7
+  count-laid : (x : ℕ) → x < replicasMax
       → settledIn (layReplica (r .replica x) .accepted) (layTable kit) (kit .leader) x (totalOf (layIssued (r .counter)) x ag)
       ≡ settledCount kit x (r .replica x) (length (r .counter x ag))
   unfolding layTable
@@ -62,7 +62,7 @@ module _ (kit : Kit) (r : Room) (b : Bounds kit r) where
       rw (total-laid (r .counter) x ag below (omega arith))
       (settled-laid kit (r .replica x) (size-max (b .good)) x (length (r .counter x ag)) (leader-max (b .good)))
 
-  noted-shown : (x : ℕ) → x < 7
+  noted-shown : (x : ℕ) → x < replicasMax
       → settledShown (notedSettled (kit .leader) (layTable kit) (layIssued (r .counter)) x (layReplica (r .replica x)))
       ≡ settledNoted kit x (r .replica x) (length (r .counter x ag))
   unfolding settledShown notedSettled settledNoted
@@ -71,13 +71,13 @@ module _ (kit : Kit) (r : Room) (b : Bounds kit r) where
   -- the list of history h, where there is one
   list-shown : (h : ℕ) (o : Option Filing) → nth (r .histories) h ≡ o
       → settledShown
-      (pick (ltb h 8) (record { requests = getD (layLists (r .histories)) h []; count = getD (getD (layHeads (r .histories)) h []) 2 0 }) nothingSettled)
+      (pick (ltb h historiesMax) (record { requests = getD (layLists (r .histories)) h []; count = getD (getD (layHeads (r .histories)) h []) 2 0 }) nothingSettled)
       ≡ listOf o
   unfolding settledShown
-  list-shown h none e = split (ltb h 8) (λ t. rw (t, head-laid (r .histories) h (ltb-true h 8 t), e)) (λ t. rw t)
+  list-shown h none e = split (ltb h historiesMax) (λ t. rw (t, head-laid (r .histories) h (ltb-true h historiesMax t), e)) (λ t. rw t)
   list-shown h (some f) e =
-      let below : h < 8 = omega (arith, nth-lt (r .histories) h e, b .histories-filed, b .filed-max) in
-      rw (lt-ltb h 8 below, head-laid (r .histories) h below, list-laid (r .histories) h below, e) (take-pad 64 (f .list))
+      let below : h < historiesMax = omega (arith, nth-lt (r .histories) h e, b .histories-filed, b .filed-max) in
+      rw (lt-ltb h historiesMax below, head-laid (r .histories) h below, list-laid (r .histories) h below, e) (take-pad requestsMax (f .list))
 
   held-shown : (p : Rules.Replica)
       → settledShown (heldSettled (layHeads (r .histories)) (layLists (r .histories)) (layReplica p)) ≡ heldList r (p .held)
@@ -87,7 +87,7 @@ module _ (kit : Kit) (r : Room) (b : Bounds kit r) where
       by-held : (o : Option ℕ)
           → settledShown
           (pick (isSome o)
-          (pick (ltb (numberOr0 o) 8)
+          (pick (ltb (numberOr0 o) historiesMax)
           (record { requests = getD (layLists (r .histories)) (numberOr0 o) []; count = getD (getD (layHeads (r .histories)) (numberOr0 o) []) 2 0 })
           nothingSettled) nothingSettled)
           ≡ heldList r o
@@ -99,14 +99,14 @@ module _ (kit : Kit) (r : Room) (b : Bounds kit r) where
   laidSettled x c =
       settledBy (kit .leader) (layTable kit) (layHeads (r .histories)) (layLists (r .histories)) (layIssued (r .counter)) x (layReplica (r .replica x)) c
 
-  by-condition : (x : ℕ) → x < 7 → (c : Condition) → r .replica x .condition ≡ c → settledShown (laidSettled x c) ≡ settled kit r x
+  by-condition : (x : ℕ) → x < replicasMax → (c : Condition) → r .replica x .condition ≡ c → settledShown (laidSettled x c) ≡ settled kit r x
   unfolding settled
   by-condition x below Running e = rw (noted-shown x below, e)
   by-condition x below Halted e = rw (noted-shown x below, e)
   by-condition x below Closed e = rw (held-shown (r .replica x), e)
   by-condition x below Faulty e = rw (nothing-shown, e)
 
-  pub settled-shown : (x : ℕ) → x < 7
+  pub settled-shown : (x : ℕ) → x < replicasMax
       → settledShown
       (settledOf (kit .leader) (layTable kit) (layHeads (r .histories)) (layLists (r .histories)) (layIssued (r .counter)) x (layReplica (r .replica x)))
       ≡ settled kit r x

@@ -1,32 +1,21 @@
 // What a replica has settled, and what is shown of its record: both texts read them here.
 ghost use mathlib.Core.Path.{_≡_};
-ghost use Prim.Native.Nat.{min};
 ghost use Rattle.room.specs.Settled.{nothingSettled, notedSettled, heldSettled, settledOf, shownRecord};
 use ledger::Issued;
 use replica::Replica;
+use terms::AG;
 use terms::Condition;
+use terms::HISTORIES;
+use terms::Heads;
+use terms::Lists;
+use terms::REQUESTS;
+use terms::Requests;
+use terms::Table;
 
 // The first `count` of these requests, or all where there are fewer.
 pub struct Settled {
-    pub requests: [u32; 64],
+    pub requests: Requests,
     pub count: usize,
-}
-
-// A number as a count.
-fn index(n: u32) -> usize
-    ensures { λ r. ⌜ r ≡ n ⌝ }
-{
-    n as usize
-}
-
-// The lesser of two counts.
-fn lesser(a: usize, b: usize) -> usize
-    ensures { λ r. ⌜ r ≡ min a b ⌝ }
-{
-    if a < b {
-        return a;
-    }
-    b
 }
 
 // Of a replica that has settled nothing.
@@ -34,32 +23,32 @@ fn nothing() -> Settled
     ensures { λ r. ⌜ r ≡ nothingSettled ⌝ }
 {
     Settled {
-        requests: [0; 64],
+        requests: [0; REQUESTS],
         count: 0,
     }
 }
 
 // Of a replica that has not closed: the first of its noted requests.
-fn noted(x: usize, p: Replica, leader: usize, table: &[u32; 7], issued: &Issued) -> Settled
+fn noted(x: usize, p: Replica, leader: usize, table: &Table, issued: &Issued) -> Settled
     ensures { λ r. ⌜ r ≡ notedSettled leader (now (table .entry)) (now (issued .entry)) x p ⌝ }
 {
     let accepted = p.accepted;
     let requests = p.noted;
-    let own = ledger::total(issued, x, 0);
+    let own = ledger::total(issued, x, AG);
     let c = replica::settled_count(&accepted, table, leader, x, own);
     Settled {
         requests,
-        count: lesser(c, p.count),
+        count: terms::lesser(c, p.count),
     }
 }
 
 // Of a closed one: the whole list of the history that it holds.
-fn held(p: Replica, heads: &[[usize; 3]; 8], lists: &[[u32; 64]; 8]) -> Settled
+fn held(p: Replica, heads: &Heads, lists: &Lists) -> Settled
     ensures { λ r. ⌜ r ≡ heldSettled (now (heads .entry)) (now (lists .entry)) p ⌝ }
 {
-    let h = index(p.held);
+    let h = terms::index(p.held);
     if p.holding {
-        if h < 8 {
+        if h < HISTORIES {
             let requests = lists[h];
             return Settled {
                 requests,
@@ -76,9 +65,9 @@ pub fn settled_of(
     x: usize,
     p: Replica,
     leader: usize,
-    table: &[u32; 7],
-    heads: &[[usize; 3]; 8],
-    lists: &[[u32; 64]; 8],
+    table: &Table,
+    heads: &Heads,
+    lists: &Lists,
     issued: &Issued,
 ) -> Settled
     ensures { λ r. ⌜ r ≡ settledOf leader (now (table .entry)) (now (heads .entry)) (now (lists .entry)) (now (issued .entry)) x p ⌝ }

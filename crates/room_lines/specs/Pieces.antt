@@ -4,6 +4,7 @@ use mathlib.Core.List.{List, [], _∷_, _++_}
 use Prim.Native.Nat.{ℕ, zero, suc, _/_, _%_}
 use lib.ListN.{length, getD}
 use lib.Dec.{eqb}
+use Rattle.terms.specs.Limits.{names, counters}
 use Rattle.terms.specs.Lists.{pick}
 use Rattle.terms.specs.Numbers.{contentNumbers}
 use Rattle.terms.specs.declared.Condition.{Condition}
@@ -90,7 +91,7 @@ heldText holding held = (0x20 ∷ 0x68 ∷ 0x65 ∷ 0x6c ∷ 0x64 ∷ 0x3d ∷ [
 unfoldable pub entryText : Bool → ℕ → ℕ → List ℕ
 entryText begun c value =
     pick (eqb value 0) []
-    (pick begun (44 ∷ []) [] ++ (decimal (c / 3) ++ ((46 ∷ []) ++ (decimal (c % 3) ++ ((58 ∷ []) ++ decimal value)))))
+    (pick begun (44 ∷ []) [] ++ (decimal (c / names) ++ ((46 ∷ []) ++ (decimal (c % names) ++ ((58 ∷ []) ++ decimal value)))))
 
 -- m entries from entry c on
 unfoldable pub entriesFrom : (ℕ → ℕ) → Bool → ℕ → ℕ → List ℕ
@@ -101,7 +102,7 @@ entriesFrom accepted begun c (suc m) =
 -- "accepted=" and the values of seven senders' three counters
 unfoldable pub acceptedText : (ℕ → ℕ) → List ℕ
 acceptedText accepted =
-    (0x20 ∷ 0x61 ∷ 0x63 ∷ 0x63 ∷ 0x65 ∷ 0x70 ∷ 0x74 ∷ 0x65 ∷ 0x64 ∷ 0x3d ∷ []) ++ entriesFrom accepted false 0 21
+    (0x20 ∷ 0x61 ∷ 0x63 ∷ 0x63 ∷ 0x65 ∷ 0x70 ∷ 0x74 ∷ 0x65 ∷ 0x64 ∷ 0x3d ∷ []) ++ entriesFrom accepted false 0 counters
 
 -- "replica", number, condition, "settled=", "mark="
 unfoldable pub openingText : ℕ → Condition → ℕ → ℕ → List ℕ

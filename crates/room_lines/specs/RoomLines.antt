@@ -5,11 +5,12 @@ use mathlib.Core.List.{List, [], _++_}
 use Prim.Native.Nat.{ℕ, suc, _-_, min}
 use lib.ListN.{getD, take}
 use lib.Dec.{eqb, ltb}
+use Rattle.terms.specs.Limits.{replicasMax, ag, up, sw, placesMax, requestsMax, historiesMax, eventsMax}
+use Rattle.terms.specs.Lent.{Table, Requests, Ticks, Heads, Lists, Answers}
 use Rattle.terms.specs.Lists.{pick}
 use Rattle.terms.specs.declared.ContentChoice.{ContentChoice}
 use Rattle.terms.specs.declared.ContentChoice.the-variants as ContentChoice
 use Rattle.text.specs.Text.{decimal}
-use Rattle.rules.specs.Table.{ag, up, sw}
 use Rattle.ledger.specs.Ledger.{Places, totalOf, lookUp}
 use Rattle.replica.specs.declared.Replica.{Replica}
 use Rattle.replica.specs.Record.{freshRecord}
@@ -22,24 +23,24 @@ use Rattle.room_lines.specs.Pieces.{dash, eventText, submissionText, sub
 -- ---- the event, submissions, histories
 
 -- the answer to event n, counted from 1; there are 4,096 at the most
-unfoldable pub answerIn : List ℕ → ℕ → List ℕ
-answerIn answers n = pick (eqb n 0) dash (pick (ltb 4096 n) dash (decimal (getD answers (n - 1) 0)))
+unfoldable pub answerIn : Answers → ℕ → List ℕ
+answerIn answers n = pick (eqb n 0) dash (pick (ltb eventsMax n) dash (decimal (getD answers (n - 1) 0)))
 
-abbrev pub submissionAt : List ℕ → List ℕ → ℕ → List ℕ
+abbrev pub submissionAt : Requests → Ticks → ℕ → List ℕ
 submissionAt requests ticks i = submissionText (getD requests i 0) (getD ticks i 0)
 
-unfoldable pub submissionsIn : List ℕ → List ℕ → ℕ → List ℕ
-submissionsIn requests ticks n = linesFrom 0 (min n 64) (submissionAt requests ticks)
+unfoldable pub submissionsIn : Requests → Ticks → ℕ → List ℕ
+submissionsIn requests ticks n = linesFrom 0 (min n requestsMax) (submissionAt requests ticks)
 
-unfoldable pub submittedLine : List ℕ → List ℕ → ℕ → List ℕ
+unfoldable pub submittedLine : Requests → Ticks → ℕ → List ℕ
 submittedLine requests ticks n = submittedText (submissionsIn requests ticks n)
 
-abbrev pub historyAt : List (List ℕ) → List (List ℕ) → ℕ → List ℕ
+abbrev pub historyAt : Heads → Lists → ℕ → List ℕ
 historyAt heads lists h =
     historyText h (getD (getD heads h []) 0 0) (getD (getD heads h []) 1 0) (take (getD (getD heads h []) 2 0) (getD lists h []))
 
-unfoldable pub historyLines : List (List ℕ) → List (List ℕ) → ℕ → List ℕ
-historyLines heads lists n = linesFrom 0 (min n 8) (historyAt heads lists)
+unfoldable pub historyLines : Heads → Lists → ℕ → List ℕ
+historyLines heads lists n = linesFrom 0 (min n historiesMax) (historyAt heads lists)
 
 -- ---- counters
 
@@ -53,7 +54,7 @@ abbrev pub contentAtPlace : List Places → List ℕ → ℕ → ℕ → ℕ →
 contentAtPlace ledger issued x name i = choiceText (lookUp ledger issued x name (suc i))
 
 unfoldable pub contentsIn : List Places → List ℕ → ℕ → ℕ → ℕ → List ℕ
-contentsIn ledger issued x name n = linesFrom 0 (min n 96) (contentAtPlace ledger issued x name)
+contentsIn ledger issued x name n = linesFrom 0 (min n placesMax) (contentAtPlace ledger issued x name)
 
 unfoldable pub counterLine : List Places → List ℕ → ℕ → ℕ → List ℕ
 counterLine ledger issued x name =
@@ -64,7 +65,7 @@ unfoldable pub countersAt : List Places → List ℕ → ℕ → List ℕ
 countersAt ledger issued x = counterLine ledger issued x ag ++ (counterLine ledger issued x up ++ counterLine ledger issued x sw)
 
 unfoldable pub counterLines : List Places → List ℕ → ℕ → List ℕ
-counterLines ledger issued size = linesFrom 0 (min size 7) (countersAt ledger issued)
+counterLines ledger issued size = linesFrom 0 (min size replicasMax) (countersAt ledger issued)
 
 -- ---- replicas
 
@@ -80,23 +81,24 @@ recordLine x p list =
     (λ c. getD (p .accepted) c 0) list
 
 -- what is shown of its record, and what it has settled
-unfoldable pub replicaLine : ℕ → List ℕ → List (List ℕ) → List (List ℕ) → List ℕ → ℕ → Replica → List ℕ
+unfoldable pub replicaLine : ℕ → Table → Heads → Lists → List ℕ → ℕ → Replica → List ℕ
 replicaLine leader table heads lists issued x p =
     recordLine x (shownRecord p) (settledShown (settledOf leader table heads lists issued x p))
 
 -- the line of replica x
-abbrev pub replicaAt : ℕ → List ℕ → List (List ℕ) → List (List ℕ) → List ℕ → List Replica → ℕ → List ℕ
+abbrev pub replicaAt : ℕ → Table → Heads → Lists → List ℕ → List Replica → ℕ → List ℕ
 replicaAt leader table heads lists issued replicas x = replicaLine leader table heads lists issued x (getD replicas x (freshRecord true))
 
 -- one line for each replica
-unfoldable pub replicaLines : List Replica → Roles → List ℕ → List (List ℕ) → List (List ℕ) → List ℕ → List ℕ
+unfoldable pub replicaLines : List Replica → Roles → Table → Heads → Lists → List ℕ → List ℕ
 replicaLines replicas roles table heads lists issued =
-    linesFrom 0 (min (roles .size) 7) (replicaAt (roles .leader) table heads lists issued replicas)
+    linesFrom 0 (min (roles .size) replicasMax) (replicaAt (roles .leader) table heads lists issued replicas)
 
 -- ---- the whole
 
 -- the room after n events
-unfoldable pub roomLines : List ℕ → ℕ → Desk → List Replica → Roles → List ℕ → List ℕ → List ℕ → List (List ℕ) → List (List ℕ) → List Places → List ℕ → List ℕ
+unfoldable pub roomLines
+    : Answers → ℕ → Desk → List Replica → Roles → Table → Requests → Ticks → Heads → Lists → List Places → List ℕ → List ℕ
 roomLines answers n desk replicas roles table requests ticks heads lists ledger issued =
     eventText n (desk .clock) (answerIn answers n) (desk .late) (desk .due)
     ++ (submittedLine requests ticks (desk .submitted)

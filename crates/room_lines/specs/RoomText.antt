@@ -4,10 +4,10 @@ use mathlib.Core.Bool.{true}
 use mathlib.Core.List.{List, _++_}
 use Prim.Native.Nat.{ℕ, zero, suc, _/_, _%_}
 use lib.ListN.{length, getD}
+use Rattle.terms.specs.Limits.{names, ag, up, sw}
 use Rattle.terms.specs.Lists.{pick, isSome}
 use Rattle.terms.specs.Kit.{Kit}
 use Rattle.text.specs.Text.{decimal}
-use Rattle.rules.specs.Table.{ag, up, sw}
 use Rattle.rules.specs.Room.{Room, Replica, freshReplica}
 use Rattle.rules.specs.Reading.{isFaulty, settled}
 use Rattle.rules.specs.Play.{after, answer}
@@ -44,7 +44,7 @@ unfoldable pub replicaSaid : Kit → Room → ℕ → List ℕ
 replicaSaid kit r x =
     let p = recordShown (r .replica x) in
     recordText x (p .condition) (p .mark) (isSome (p .held)) (numberOr0 (p .held)) (p .noted) (p .pairMarks)
-    (λ c. p .accepted (c / 3) (c % 3)) (settled kit r x)
+    (λ c. p .accepted (c / names) (c % names)) (settled kit r x)
 
 -- the room after n events
 unfoldable pub roomText : Kit → ℕ → List ℕ

@@ -7,12 +7,13 @@ use Prim.Native.Nat.{ℕ, zero, suc, _-_, _/_, _%_, _≤_, _<_, min}
 use native.Mathlib.Omega.{arith}
 use lib.ListN.{length, getD}
 use borrow.Author.Tests.{le-ltb, ne-eqb}
+use Rattle.terms.specs.Limits.{replicasMax, names, counters, ag, up, sw, placesMax, requestsMax, historiesMax, eventsMax}
+use Rattle.terms.specs.Lent.{Clocks, Answers}
 use Rattle.terms.specs.Lists.{isSome}
 use Rattle.terms.specs.ListLaws.{nth-lt, nth-getD}
 use Rattle.terms.specs.Kit.{Kit}
 use Rattle.terms.specs.Padding.{pad, getD-pad, take-pad}
 use Rattle.terms.specs.Tabulate.{grid, getD-tab}
-use Rattle.rules.specs.Table.{ag, up, sw}
 use Rattle.rules.specs.Room.{Room}
 use Rattle.rules.specs.Room as Rules
 use Rattle.rules.specs.Reading.{settled}
@@ -37,26 +38,27 @@ use Rattle.room_lines.specs.RoomText.{answerSaid, submittedSaid, histori
 
 -- ---- the answer
 
-pub answer-said : (kit : Kit) (n : ℕ) → n ≤ 4096 → (clocks answers : List ℕ) → Says kit n clocks answers → answerIn answers n ≡ answerSaid kit n
+pub answer-said : (kit : Kit) (n : ℕ) → n ≤ eventsMax → (clocks : Clocks) (answers : Answers) → Says kit n clocks answers
+    → answerIn answers n ≡ answerSaid kit n
 unfolding answerIn
 answer-said kit zero small clocks answers s = refl
 answer-said kit (suc k) small clocks answers s =
     let z : suc k - 1 ≡ k = omega arith in
-    rw (ne-eqb (suc k) 0 (λ e. omega arith), le-ltb 4096 (suc k) (omega (arith, small)), z, s .answer k (omega arith))
+    rw (ne-eqb (suc k) 0 (λ e. omega arith), le-ltb eventsMax (suc k) (omega (arith, small)), z, s .answer k (omega arith))
 
 -- ---- what a record keeps
 
-accepted-said : (g : ℕ → ℕ → ℕ) → acceptedText (λ c. getD (grid g) c 0) ≡ acceptedText (λ c. g (c / 3) (c % 3))
+accepted-said : (g : ℕ → ℕ → ℕ) → acceptedText (λ c. getD (grid g) c 0) ≡ acceptedText (λ c. g (c / names) (c % names))
 unfolding acceptedText grid
 accepted-said g =
-    rw (entries-ext 21 0 _ (λ c. g (c / 3) (c % 3)) false (λ k h. getD-tab 21 (λ i. g (i / 3) (i % 3)) k 0 (omega (arith, h))))
+    rw (entries-ext counters 0 _ (λ c. g (c / names) (c % names)) false (λ k h. getD-tab counters (λ i. g (i / names) (i % names)) k 0 (omega (arith, h))))
 
 record-said : (x : ℕ) (p : Rules.Replica) (list : List ℕ)
     → recordLine x (layReplica p) list
     ≡ recordText x (p .condition) (p .mark) (isSome (p .held)) (numberOr0 (p .held)) (p .noted) (p .pairMarks)
-    (λ e. p .accepted (e / 3) (e % 3)) list
+    (λ e. p .accepted (e / names) (e % names)) list
 unfolding recordLine recordText keptText layReplica
-record-said x p list = rw (take-pad 64 (p .noted), take-pad 64 (p .pairMarks), accepted-said (p .accepted))
+record-said x p list = rw (take-pad requestsMax (p .noted), take-pad requestsMax (p .pairMarks), accepted-said (p .accepted))
 
 -- ---- what is shown of it
 
@@ -67,34 +69,34 @@ shown-said p = shown-laid p
 module _ (kit : Kit) (r : Room) (b : Bounds kit r) where
   -- ---- submissions, histories
 
-  submissions-said : submittedLine (pad 64 (r .submitted)) (pad 64 (r .ticks)) (length (r .submitted)) ≡ submittedSaid r
+  submissions-said : submittedLine (pad requestsMax (r .submitted)) (pad requestsMax (r .ticks)) (length (r .submitted)) ≡ submittedSaid r
   unfolding submittedLine submissionsIn submittedSaid
   submissions-said =
-      let m : min (length (r .submitted)) 64 ≡ length (r .submitted) = omega (arith, b .submitted-max) in
+      let m : min (length (r .submitted)) requestsMax ≡ length (r .submitted) = omega (arith, b .submitted-max) in
       rw m
       (ap submittedText
       (lines-each (r .submitted) _ _ (λ k a e.
       let z : getD (r .submitted) k 0 ≡ a = cc (nth-getD (r .submitted) k 0 (nth-lt (r .submitted) k e), e) in
-      rw (getD-pad 64 (r .submitted) k, getD-pad 64 (r .ticks) k, z))))
+      rw (getD-pad requestsMax (r .submitted) k, getD-pad requestsMax (r .ticks) k, z))))
 
   histories-said : historyLines (layHeads (r .histories)) (layLists (r .histories)) (length (r .histories)) ≡ historiesSaid r
   unfolding historyLines historiesSaid
   histories-said =
-      let few : length (r .histories) ≤ 8 = omega (arith, b .histories-filed, b .filed-max) in
-      let m : min (length (r .histories)) 8 ≡ length (r .histories) = omega (arith, few) in
+      let few : length (r .histories) ≤ historiesMax = omega (arith, b .histories-filed, b .filed-max) in
+      let m : min (length (r .histories)) historiesMax ≡ length (r .histories) = omega (arith, few) in
       rw m
       (lines-each (r .histories) _ _ (λ k a e.
-      let below : k < 8 = omega (arith, few, nth-lt (r .histories) k e) in
-      rw (head-laid (r .histories) k below, list-laid (r .histories) k below, e) (ap (historyText k (a .j) (a .k)) (take-pad 64 (a .list)))))
+      let below : k < historiesMax = omega (arith, few, nth-lt (r .histories) k e) in
+      rw (head-laid (r .histories) k below, list-laid (r .histories) k below, e) (ap (historyText k (a .j) (a .k)) (take-pad requestsMax (a .list)))))
 
   -- ---- counters
 
-  counter-said : (x name : ℕ) → x < 7 → name < 3 → counterLine (layLedger (r .counter)) (layIssued (r .counter)) x name ≡ counterSaid r x name
+  counter-said : (x name : ℕ) → x < replicasMax → name < names → counterLine (layLedger (r .counter)) (layIssued (r .counter)) x name ≡ counterSaid r x name
   unfolding counterLine contentsIn counterSaid
   counter-said x name below named =
       let l = r .counter x name in
       let few = b .counter-max x name in
-      let m : min (length l) 96 ≡ length l = omega (arith, few) in
+      let m : min (length l) placesMax ≡ length l = omega (arith, few) in
       rw (total-laid (r .counter) x name below named, m)
       (ap (counterText x name (length l))
       (lines-each l _ _ (λ k a e. rw (look-laid (r .counter) x name below named (suc k) few, e))))
@@ -102,15 +104,15 @@ module _ (kit : Kit) (r : Room) (b : Bounds kit r) where
   counters-said : counterLines (layLedger (r .counter)) (layIssued (r .counter)) (length (kit .table)) ≡ linesFrom 0 (length (kit .table)) (countersSaid r)
   unfolding counterLines countersAt countersSaid
   counters-said =
-      let m : min (length (kit .table)) 7 ≡ length (kit .table) = omega (arith, size-max (b .good)) in
+      let m : min (length (kit .table)) replicasMax ≡ length (kit .table) = omega (arith, size-max (b .good)) in
       rw m
       (lines-ext (length (kit .table)) 0 _ _ (λ x h.
-      let below : x < 7 = omega (arith, h, size-max (b .good)) in
+      let below : x < replicasMax = omega (arith, h, size-max (b .good)) in
       rw (counter-said x ag below (omega arith), counter-said x up below (omega arith), counter-said x sw below (omega arith))))
 
   -- ---- replicas
 
-  replica-said : (x : ℕ) → x < 7
+  replica-said : (x : ℕ) → x < replicasMax
       → replicaLine (kit .leader) (layTable kit) (layHeads (r .histories)) (layLists (r .histories)) (layIssued (r .counter)) x (layReplica (r .replica x))
       ≡ replicaSaid kit r x
   unfolding replicaLine replicaSaid
@@ -123,19 +125,19 @@ module _ (kit : Kit) (r : Room) (b : Bounds kit r) where
       ≡ linesFrom 0 (length (kit .table)) (replicaSaid kit r)
   unfolding replicaLines layRoles
   replicas-said =
-      let m : min (length (kit .table)) 7 ≡ length (kit .table) = omega (arith, size-max (b .good)) in
+      let m : min (length (kit .table)) replicasMax ≡ length (kit .table) = omega (arith, size-max (b .good)) in
       rw m
       (lines-ext (length (kit .table)) 0 _ _ (λ x h.
-      let below : x < 7 = omega (arith, h, size-max (b .good)) in rw (replica-laid (r .replica) x _ below) (replica-said x below)))
+      let below : x < replicasMax = omega (arith, h, size-max (b .good)) in rw (replica-laid (r .replica) x _ below) (replica-said x below)))
 
 -- ---- the whole
 
 -- the lines of a kit's room after n events, from the parts that the player keeps
-abbrev pub partsRoom : Kit → ℕ → List ℕ → Parts → List ℕ
+abbrev pub partsRoom : Kit → ℕ → Answers → Parts → List ℕ
 partsRoom kit n answers p =
     roomLines answers n (p .desk) (p .replicas) (layRoles kit) (layTable kit) (p .requests) (p .ticks) (p .heads) (p .lists) (p .ledger) (p .issued)
 
-pub room-said : (kit : Kit) (n : ℕ) → n ≤ 4096 → Bounds kit (after kit n) → (clocks answers : List ℕ) → Says kit n clocks answers
+pub room-said : (kit : Kit) (n : ℕ) → n ≤ eventsMax → Bounds kit (after kit n) → (clocks : Clocks) (answers : Answers) → Says kit n clocks answers
     → (known : ℕ) → partsRoom kit n answers (layRoom (after kit n) known) ≡ roomText kit n
 unfolding roomLines roomText layRoom layDesk layRoles
 room-said kit n small b clocks answers s known =

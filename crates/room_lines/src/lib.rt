@@ -6,6 +6,7 @@ ghost use mathlib.Core.List.{[], _∷_, _++_};
 ghost use lib.ListN.{take, drop, getD};
 ghost use lib.Dec.{eqb};
 ghost use Prim.Native.Nat.{_+_, _<_};
+ghost use Rattle.terms.specs.Limits.{counters, placesMax};
 ghost use Rattle.terms.specs.Lists.{pick};
 ghost use Rattle.text.specs.Text.{Lays};
 ghost use Rattle.room_lines.specs.Pieces.{commas, listed, clockText, eventText, submissionText, historyText, partsText, contentText, heldText, entryText, entriesFrom, acceptedText, openingText};
@@ -13,11 +14,29 @@ ghost use Rattle.room_lines.specs.RoomLines.{answerIn, submissionsIn, su
 use ledger::Issued;
 use ledger::Ledger;
 use replica::Replica;
+use replica::Replicas;
 use room::Desk;
 use room::Roles;
+use terms::AG;
+use terms::Accepted;
+use terms::Answers;
+use terms::COUNTERS;
 use terms::Condition;
 use terms::Content;
 use terms::ContentChoice;
+use terms::EVENTS;
+use terms::HISTORIES;
+use terms::Heads;
+use terms::Lists;
+use terms::NAMES;
+use terms::PLACES;
+use terms::REPLICAS;
+use terms::REQUESTS;
+use terms::Requests;
+use terms::SW;
+use terms::Table;
+use terms::Ticks;
+use terms::UP;
 
 // ---- lists
 
@@ -29,7 +48,7 @@ fn put_commas(out: &mut [u8], at: usize, list: &[u32]) -> usize
     let mut i: usize = 1;
     while i < list.len() {
         let a = text::put_byte(out, place, 44);
-        place = text::put_decimal(out, a, play_lines::wide(list[i]));
+        place = text::put_decimal(out, a, terms::wide(list[i]));
         i = i + 1;
     }
     place
@@ -42,7 +61,7 @@ fn put_listed(out: &mut [u8], at: usize, list: &[u32]) -> usize
     if list.len() == 0 {
         return text::put_byte(out, at, 45);
     }
-    let a = text::put_decimal(out, at, play_lines::wide(list[0]));
+    let a = text::put_decimal(out, at, terms::wide(list[0]));
     put_commas(out, a, list)
 }
 
@@ -50,7 +69,7 @@ fn put_listed(out: &mut [u8], at: usize, list: &[u32]) -> usize
 fn put_part(out: &mut [u8], at: usize, word: &[u8], list: &[u32], n: usize) -> usize
     ensures { λ r. ⌜ Lays (now (out .entry)) at (now (word .entry) ++ listed (take n (now (list .entry)))) r (now (out .exit)) ⌝ }
 {
-    let m = play_lines::lesser(n, list.len());
+    let m = terms::lesser(n, list.len());
     let a = text::put_word(out, at, word);
     put_listed(out, a, &list[..m])
 }
@@ -58,16 +77,16 @@ fn put_part(out: &mut [u8], at: usize, word: &[u8], list: &[u32], n: usize) -> u
 // ---- the event
 
 // The answer to event n, counted from 1; "-" where there is none.
-fn put_answer(out: &mut [u8], at: usize, answers: &[u32; 4096], n: usize) -> usize
+fn put_answer(out: &mut [u8], at: usize, answers: &Answers, n: usize) -> usize
     ensures { λ r. ⌜ Lays (now (out .entry)) at (answerIn (now (answers .entry)) n) r (now (out .exit)) ⌝ }
 {
     if n == 0 {
         return text::put_byte(out, at, 45);
     }
-    if 4096 < n {
+    if EVENTS < n {
         return text::put_byte(out, at, 45);
     }
-    text::put_decimal(out, at, play_lines::wide(answers[n - 1]))
+    text::put_decimal(out, at, terms::wide(answers[n - 1]))
 }
 
 // The number of an event, and the clock after it.
@@ -75,7 +94,7 @@ fn put_clock(out: &mut [u8], at: usize, n: usize, clock: u64) -> usize
     ensures { λ r. ⌜ Lays (now (out .entry)) at (clockText n clock) r (now (out .exit)) ⌝ }
 {
     let a = text::put_word(out, at, b"event");
-    let b = play_lines::put_next(out, a, play_lines::long(n));
+    let b = play_lines::put_next(out, a, terms::long(n));
     let c = text::put_word(out, b, b" clock");
     play_lines::put_next(out, c, clock)
 }
@@ -84,7 +103,7 @@ fn put_clock(out: &mut [u8], at: usize, n: usize, clock: u64) -> usize
 fn put_event(
     out: &mut [u8],
     at: usize,
-    answers: &[u32; 4096],
+    answers: &Answers,
     n: usize,
     clock: u64,
     late: bool,
@@ -111,33 +130,21 @@ fn put_submission(out: &mut [u8], at: usize, request: u64, tick: u64) -> usize
 }
 
 // The first n submissions, of 64 at the most.
-fn put_submissions(
-    out: &mut [u8],
-    at: usize,
-    requests: &[u32; 64],
-    ticks: &[u64; 64],
-    n: usize,
-) -> usize
+fn put_submissions(out: &mut [u8], at: usize, requests: &Requests, ticks: &Ticks, n: usize) -> usize
     ensures { λ r. ⌜ Lays (now (out .entry)) at (submissionsIn (now (requests .entry)) (now (ticks .entry)) n) r (now (out .exit)) ⌝ }
 {
-    let count = play_lines::lesser(n, 64);
+    let count = terms::lesser(n, REQUESTS);
     let mut place = at;
     let mut i: usize = 0;
     while i < count {
-        place = put_submission(out, place, play_lines::wide(requests[i]), ticks[i]);
+        place = put_submission(out, place, terms::wide(requests[i]), ticks[i]);
         i = i + 1;
     }
     place
 }
 
 // The line of the submissions.
-fn put_submitted(
-    out: &mut [u8],
-    at: usize,
-    requests: &[u32; 64],
-    ticks: &[u64; 64],
-    n: usize,
-) -> usize
+fn put_submitted(out: &mut [u8], at: usize, requests: &Requests, ticks: &Ticks, n: usize) -> usize
     ensures { λ r. ⌜ Lays (now (out .entry)) at (submittedLine (now (requests .entry)) (now (ticks .entry)) n) r (now (out .exit)) ⌝ }
 {
     let a = text::put_word(out, at, b"submitted");
@@ -160,24 +167,18 @@ fn put_history(
     ensures { λ r. ⌜ Lays (now (out .entry)) at (historyText h j k (take n (now (list .entry)))) r (now (out .exit)) ⌝ }
 {
     let a = text::put_word(out, at, b"history");
-    let b = play_lines::put_next(out, a, play_lines::long(h));
-    let c = play_lines::put_next(out, b, play_lines::long(j));
-    let d = play_lines::put_next(out, c, play_lines::long(k));
+    let b = play_lines::put_next(out, a, terms::long(h));
+    let c = play_lines::put_next(out, b, terms::long(j));
+    let d = play_lines::put_next(out, c, terms::long(k));
     let e = put_part(out, d, b" ", list, n);
     text::put_byte(out, e, 10)
 }
 
 // The lines of the first n histories, of eight at the most.
-fn put_histories(
-    out: &mut [u8],
-    at: usize,
-    heads: &[[usize; 3]; 8],
-    lists: &[[u32; 64]; 8],
-    n: usize,
-) -> usize
+fn put_histories(out: &mut [u8], at: usize, heads: &Heads, lists: &Lists, n: usize) -> usize
     ensures { λ r. ⌜ Lays (now (out .entry)) at (historyLines (now (heads .entry)) (now (lists .entry)) n) r (now (out .exit)) ⌝ }
 {
-    let count = play_lines::lesser(n, 8);
+    let count = terms::lesser(n, HISTORIES);
     let mut place = at;
     let mut h: usize = 0;
     while h < count {
@@ -213,9 +214,9 @@ fn put_content(out: &mut [u8], at: usize, content: Content) -> usize
     ensures { λ r. ⌜ Lays (now (out .entry)) at (contentText content) r (now (out .exit)) ⌝ }
 {
     let p = terms::numbers_of_content(content);
-    let kind = play_lines::wide(p[0]);
-    let a = play_lines::wide(p[1]);
-    let b = play_lines::wide(p[2]);
+    let kind = terms::wide(p[0]);
+    let a = terms::wide(p[1]);
+    let b = terms::wide(p[2]);
     put_parts(out, at, kind, a, b)
 }
 
@@ -231,7 +232,7 @@ fn put_choice(out: &mut [u8], at: usize, choice: ContentChoice) -> usize
 
 // The value after the first i of a counter.
 fn value_after(i: usize) -> u32
-    requires { ⌜ i < 96 ⌝ }
+    requires { ⌜ i < placesMax ⌝ }
     ensures { λ r. ⌜ r ≡ i + 1 ⌝ }
 {
     (i + 1) as u32
@@ -249,7 +250,7 @@ fn put_contents(
 ) -> usize
     ensures { λ r. ⌜ Lays (now (out .entry)) at (contentsIn (now (ledger .entry)) (now (issued .entry)) x name n) r (now (out .exit)) ⌝ }
 {
-    let count = play_lines::lesser(n, 96);
+    let count = terms::lesser(n, PLACES);
     let mut place = at;
     let mut i: usize = 0;
     while i < count {
@@ -276,9 +277,9 @@ fn put_counter(
         return at;
     }
     let a = text::put_word(out, at, b"counter");
-    let b = play_lines::put_next(out, a, play_lines::long(x));
+    let b = play_lines::put_next(out, a, terms::long(x));
     let c = text::put_byte(out, b, 46);
-    let d = text::put_decimal(out, c, play_lines::long(name));
+    let d = text::put_decimal(out, c, terms::long(name));
     let e = put_contents(out, d, ledger, issued, x, name, n);
     text::put_byte(out, e, 10)
 }
@@ -287,16 +288,16 @@ fn put_counter(
 fn put_own(out: &mut [u8], at: usize, ledger: &Ledger, issued: &Issued, x: usize) -> usize
     ensures { λ r. ⌜ Lays (now (out .entry)) at (countersAt (now (ledger .entry)) (now (issued .entry)) x) r (now (out .exit)) ⌝ }
 {
-    let a = put_counter(out, at, ledger, issued, x, 0);
-    let b = put_counter(out, a, ledger, issued, x, 1);
-    put_counter(out, b, ledger, issued, x, 2)
+    let a = put_counter(out, at, ledger, issued, x, AG);
+    let b = put_counter(out, a, ledger, issued, x, UP);
+    put_counter(out, b, ledger, issued, x, SW)
 }
 
 // The lines of the counters of the first `size` replicas, of seven at the most.
 fn put_counters(out: &mut [u8], at: usize, ledger: &Ledger, issued: &Issued, size: usize) -> usize
     ensures { λ r. ⌜ Lays (now (out .entry)) at (counterLines (now (ledger .entry)) (now (issued .entry)) size) r (now (out .exit)) ⌝ }
 {
-    let count = play_lines::lesser(size, 7);
+    let count = terms::lesser(size, REPLICAS);
     let mut place = at;
     let mut x: usize = 0;
     while x < count {
@@ -314,7 +315,7 @@ fn put_held(out: &mut [u8], at: usize, holding: bool, held: u32) -> usize
 {
     let a = text::put_word(out, at, b" held=");
     if holding {
-        return text::put_decimal(out, a, play_lines::wide(held));
+        return text::put_decimal(out, a, terms::wide(held));
     }
     text::put_byte(out, a, 45)
 }
@@ -337,11 +338,11 @@ fn put_entry(out: &mut [u8], at: usize, begun: bool, c: usize, value: u32) -> us
         return at;
     }
     let a = put_between(out, at, begun);
-    let b = text::put_decimal(out, a, play_lines::long(c / 3));
+    let b = text::put_decimal(out, a, terms::long(c / NAMES));
     let d = text::put_byte(out, b, 46);
-    let e = text::put_decimal(out, d, play_lines::long(c % 3));
+    let e = text::put_decimal(out, d, terms::long(c % NAMES));
     let f = text::put_byte(out, e, 58);
-    text::put_decimal(out, f, play_lines::wide(value))
+    text::put_decimal(out, f, terms::wide(value))
 }
 
 // Whether the list has begun after an entry of this value.
@@ -355,13 +356,13 @@ fn begins(begun: bool, value: u32) -> bool
 }
 
 // The accepted values that are not 0, or "-".
-fn put_entries(out: &mut [u8], at: usize, accepted: &[u32; 21]) -> usize
-    ensures { λ r. ⌜ Lays (now (out .entry)) at (entriesFrom (λ c. getD (now (accepted .entry)) c 0) false 0 21) r (now (out .exit)) ⌝ }
+fn put_entries(out: &mut [u8], at: usize, accepted: &Accepted) -> usize
+    ensures { λ r. ⌜ Lays (now (out .entry)) at (entriesFrom (λ c. getD (now (accepted .entry)) c 0) false 0 counters) r (now (out .exit)) ⌝ }
 {
     let mut place = at;
     let mut begun = false;
     let mut c: usize = 0;
-    while c < 21 {
+    while c < COUNTERS {
         let value = accepted[c];
         place = put_entry(out, place, begun, c, value);
         begun = begins(begun, value);
@@ -386,13 +387,13 @@ fn put_opening(
 {
     let a = play_lines::put_name(out, at, x, condition);
     let b = text::put_word(out, a, b" settled=");
-    let c = text::put_decimal(out, b, play_lines::long(settled));
+    let c = text::put_decimal(out, b, terms::long(settled));
     let d = text::put_word(out, c, b" mark=");
-    text::put_decimal(out, d, play_lines::wide(mark))
+    text::put_decimal(out, d, terms::wide(mark))
 }
 
 // What a replica has accepted: the word and the values.
-fn put_accepted(out: &mut [u8], at: usize, accepted: &[u32; 21]) -> usize
+fn put_accepted(out: &mut [u8], at: usize, accepted: &Accepted) -> usize
     ensures { λ r. ⌜ Lays (now (out .entry)) at (acceptedText (λ c. getD (now (accepted .entry)) c 0)) r (now (out .exit)) ⌝ }
 {
     let a = text::put_word(out, at, b" accepted=");
@@ -417,7 +418,7 @@ fn put_record(out: &mut [u8], at: usize, x: usize, p: Replica, list: &[u32], n: 
     ensures { λ r. ⌜ Lays (now (out .entry)) at (recordLine x p (take n (now (list .entry)))) r (now (out .exit)) ⌝ }
 {
     let condition = p.condition;
-    let m = play_lines::lesser(n, list.len());
+    let m = terms::lesser(n, list.len());
     let a = put_opening(out, at, x, condition, m, p.mark);
     let b = put_kept(out, a, p);
     let c = put_part(out, b, b" list=", list, n);
@@ -431,9 +432,9 @@ fn put_replica(
     x: usize,
     p: Replica,
     leader: usize,
-    table: &[u32; 7],
-    heads: &[[usize; 3]; 8],
-    lists: &[[u32; 64]; 8],
+    table: &Table,
+    heads: &Heads,
+    lists: &Lists,
     issued: &Issued,
 ) -> usize
     ensures { λ r. ⌜ Lays (now (out .entry)) at (replicaLine leader (now (table .entry)) (now (heads .entry)) (now (lists .entry)) (now (issued .entry)) x p) r (now (out .exit)) ⌝ }
@@ -448,17 +449,17 @@ fn put_replica(
 fn put_replicas(
     out: &mut [u8],
     at: usize,
-    replicas: [Replica; 7],
+    replicas: Replicas,
     roles: Roles,
-    table: &[u32; 7],
-    heads: &[[usize; 3]; 8],
-    lists: &[[u32; 64]; 8],
+    table: &Table,
+    heads: &Heads,
+    lists: &Lists,
     issued: &Issued,
 ) -> usize
     ensures { λ r. ⌜ Lays (now (out .entry)) at (replicaLines replicas roles (now (table .entry)) (now (heads .entry)) (now (lists .entry)) (now (issued .entry))) r (now (out .exit)) ⌝ }
 {
     let leader = roles.leader;
-    let count = play_lines::lesser(roles.size, 7);
+    let count = terms::lesser(roles.size, REPLICAS);
     let mut place = at;
     let mut x: usize = 0;
     while x < count {
@@ -474,16 +475,16 @@ fn put_replicas(
 // The room after n events, from the buffer's start: event, submissions, histories, counters, replicas.
 pub fn put_room(
     out: &mut [u8],
-    answers: &[u32; 4096],
+    answers: &Answers,
     n: usize,
     desk: Desk,
-    replicas: [Replica; 7],
+    replicas: Replicas,
     roles: Roles,
-    table: &[u32; 7],
-    requests: &[u32; 64],
-    ticks: &[u64; 64],
-    heads: &[[usize; 3]; 8],
-    lists: &[[u32; 64]; 8],
+    table: &Table,
+    requests: &Requests,
+    ticks: &Ticks,
+    heads: &Heads,
+    lists: &Lists,
     ledger: &Ledger,
     issued: &Issued,
 ) -> usize

@@ -8,7 +8,7 @@ use native.Mathlib.Omega.{arith}
 use lib.ListN.{length}
 use lib.Dec.{eqb, ltb}
 use borrow.Author.Tests.{ne-eqb, eqb-true, lt-ltb, le-ltb, ltb-true, ltb-false}
-use Rattle.terms.specs.Limits.{bytesMax}
+use Rattle.terms.specs.Limits.{eventsMax, bytesMax}
 use Rattle.terms.specs.ListLaws.{split}
 use Rattle.terms.specs.Kit.{Kit}
 use Rattle.terms.specs.Numbers.{kitNumberOf}
@@ -62,12 +62,12 @@ accepted-number KitAnswer.Excess e = absurd (omega (arith, e))
 accepted-number KitAnswer.NoRoom e = absurd (omega (arith, e))
 accepted-number KitAnswer.TooLong e = absurd (omega (arith, e))
 
-few-events : (bytes : List ℕ) → Bytes bytes → kitNumberOf (checkOf bytes) ≡ 0 → settingsIn bytes .count ≤ 4096
+few-events : (bytes : List ℕ) → Bytes bytes → kitNumberOf (checkOf bytes) ≡ 0 → settingsIn bytes .count ≤ eventsMax
 few-events bytes are e =
     let s = accepted-spells bytes are (accepted-number (checkOf bytes) e) in
     omega (arith, opened bytes (kitOf bytes) s .count, s .good .event-count)
 
-cut-moment : (bytes : List ℕ) (n : ℕ) → settingsIn bytes .count ≤ 4096
+cut-moment : (bytes : List ℕ) (n : ℕ) → settingsIn bytes .count ≤ eventsMax
     → momentText bytes (settingsIn bytes) (min n askedMax) ≡ momentText bytes (settingsIn bytes) n
 unfolding momentText
 cut-moment bytes n few =

@@ -17,7 +17,7 @@ fn put_past(out: &mut [u8], count: usize) -> usize
     ensures { λ r. ⌜ Lays (now (out .entry)) 0 (pastText count) r (now (out .exit)) ⌝ }
 {
     let a = text::put_word(out, 0, b"the kit has");
-    let b = play_lines::put_next(out, a, play_lines::long(count));
+    let b = play_lines::put_next(out, a, terms::long(count));
     text::put_word(out, b, b" events\n")
 }
 

@@ -3,6 +3,7 @@ use borrow.Author.Needs.{needs}
 use native.Mathlib.Omega.{arith}
 use Prim.Native.Nat.{_-_, _≤_}
 use native.Mathlib.Numerals.{add-one}
+use Rattle.terms.specs.Limits.{eventsMax}
 use Rattle.text.specs.TextLaws.{lays-as}
 use Rattle.play_lines.specs.Lines.{linesFrom}
 use Rattle.play_lines.specs.PlayLines.{eventAt, eventLines}
@@ -12,7 +13,7 @@ use Rattle.play_lines.proofs.put_events.Tie as tie
 
 abbrev Inv-loop : tie.InvT-loop
 Inv-loop out₀ at clocks answers n count place₀ k₀ out place k =
-    (count ≤ 4096) × Rest out₀ at (linesFrom 0 count (eventAt clocks answers)) out place (linesFrom k (count - k) (eventAt clocks answers))
+    (count ≤ eventsMax) × Rest out₀ at (linesFrom 0 count (eventAt clocks answers)) out place (linesFrom k (count - k) (eventAt clocks answers))
 
 abbrev μ-loop : tie.MeasureT-loop
 μ-loop out₀ at clocks answers n count place₀ k₀ out place k = count - k

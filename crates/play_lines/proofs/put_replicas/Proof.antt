@@ -4,6 +4,7 @@ use native.Mathlib.Omega.{arith}
 use mathlib.Core.Path.{_≡_, ap}
 use Prim.Native.Nat.{_-_, _≤_}
 use lib.ListN.{length}
+use Rattle.terms.specs.Limits.{replicasMax}
 use Rattle.text.specs.TextLaws.{lays-as}
 use Rattle.play_lines.specs.Lines.{linesFrom}
 use Rattle.play_lines.specs.PlayLines.{replicaLine, replicaAt, replicaLines}
@@ -13,8 +14,8 @@ use Rattle.play_lines.proofs.put_replicas.Tie as tie
 
 abbrev Inv-loop : tie.InvT-loop
 Inv-loop out₀ at table heads lists issued replicas leader count place₀ x₀ out place x =
-    (count ≤ 7)
-    × (length replicas ≡ 7)
+    (count ≤ replicasMax)
+    × (length replicas ≡ replicasMax)
     × Rest out₀ at (linesFrom 0 count (replicaAt leader table heads lists issued replicas)) out place
     (linesFrom x (count - x) (replicaAt leader table heads lists issued replicas))
 

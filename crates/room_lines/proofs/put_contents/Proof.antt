@@ -3,6 +3,7 @@ use borrow.Author.Needs.{needs}
 use native.Mathlib.Omega.{arith}
 use native.Mathlib.Numerals.{add-one}
 use Prim.Native.Nat.{_-_, _≤_}
+use Rattle.terms.specs.Limits.{placesMax}
 use Rattle.play_lines.specs.Lines.{linesFrom}
 use Rattle.play_lines.specs.LinesLaws.{Rest, rest-start, rest-next, rest-over, lines-start, lines-next, lines-over}
 use Rattle.text.specs.TextLaws.{lays-as}
@@ -12,7 +13,7 @@ use Rattle.room_lines.proofs.put_contents.Tie as tie
 
 abbrev Inv-loop : tie.InvT-loop
 Inv-loop out₀ at ledger issued x name n count place₀ i₀ out place i =
-    (count ≤ 96)
+    (count ≤ placesMax)
     × Rest out₀ at (linesFrom 0 count (contentAtPlace ledger issued x name)) out place (linesFrom i (count - i) (contentAtPlace ledger issued x name))
 
 abbrev μ-loop : tie.MeasureT-loop

@@ -2,6 +2,7 @@
 use borrow.Author.Needs.{needs}
 use native.Mathlib.Omega.{arith}
 use Prim.Native.Nat.{_-_, _≤_}
+use Rattle.terms.specs.Limits.{replicasMax}
 use Rattle.play_lines.specs.Lines.{linesFrom}
 use Rattle.play_lines.specs.LinesLaws.{Rest, rest-start, rest-next, rest-over, lines-start, lines-next, lines-over}
 use Rattle.text.specs.TextLaws.{lays-as}
@@ -11,7 +12,7 @@ use Rattle.room_lines.proofs.put_counters.Tie as tie
 
 abbrev Inv-loop : tie.InvT-loop
 Inv-loop out₀ at ledger issued size count place₀ x₀ out place x =
-    (count ≤ 7)
+    (count ≤ replicasMax)
     × Rest out₀ at (linesFrom 0 count (countersAt ledger issued)) out place (linesFrom x (count - x) (countersAt ledger issued))
 
 abbrev μ-loop : tie.MeasureT-loop

@@ -5,6 +5,7 @@ use mathlib.Core.List.{[]}
 use Prim.Native.Nat.{_-_}
 use mathlib.Core.Bool.{false}
 use lib.ListN.{getD}
+use Rattle.terms.specs.Limits.{counters}
 use Rattle.play_lines.specs.LinesLaws.{Rest, rest-start, rest-next, rest-over}
 use Rattle.room_lines.specs.Pieces.{entriesFrom}
 use Rattle.room_lines.specs.PieceLaws.{entries-next, entries-over}
@@ -13,10 +14,10 @@ use Rattle.room_lines.proofs.put_entries.Tie as tie
 
 abbrev Inv-loop : tie.InvT-loop
 Inv-loop out₀ at accepted place₀ begun₀ c₀ out place begun c =
-    Rest out₀ at (entriesFrom (λ k. getD accepted k 0) false 0 21) out place (entriesFrom (λ k. getD accepted k 0) begun c (21 - c))
+    Rest out₀ at (entriesFrom (λ k. getD accepted k 0) false 0 counters) out place (entriesFrom (λ k. getD accepted k 0) begun c (counters - c))
 
 abbrev μ-loop : tie.MeasureT-loop
-μ-loop out₀ at accepted place₀ begun₀ c₀ out place begun c = 21 - c
+μ-loop out₀ at accepted place₀ begun₀ c₀ out place begun c = counters - c
 
 pub put-entries-spec : {M : Type 1} → statement M
 put-entries-spec =

@@ -2,6 +2,7 @@
 use borrow.Author.Needs.{needs}
 use native.Mathlib.Omega.{arith}
 use Prim.Native.Nat.{_-_, _≤_}
+use Rattle.terms.specs.Limits.{historiesMax}
 use Rattle.play_lines.specs.Lines.{linesFrom}
 use Rattle.play_lines.specs.LinesLaws.{Rest, rest-start, rest-next, rest-over, lines-start, lines-next, lines-over}
 use Rattle.text.specs.TextLaws.{lays-as}
@@ -11,7 +12,7 @@ use Rattle.room_lines.proofs.put_histories.Tie as tie
 
 abbrev Inv-loop : tie.InvT-loop
 Inv-loop out₀ at heads lists n count place₀ h₀ out place h =
-    (count ≤ 8)
+    (count ≤ historiesMax)
     × Rest out₀ at (linesFrom 0 count (historyAt heads lists)) out place (linesFrom h (count - h) (historyAt heads lists))
 
 abbrev μ-loop : tie.MeasureT-loop

@@ -2,6 +2,7 @@
 use borrow.Author.Needs.{needs}
 use native.Mathlib.Omega.{arith}
 use Prim.Native.Nat.{_-_, _≤_}
+use Rattle.terms.specs.Limits.{requestsMax}
 use Rattle.play_lines.specs.Lines.{linesFrom}
 use Rattle.play_lines.specs.LinesLaws.{Rest, rest-start, rest-next, rest-over, lines-start, lines-next, lines-over}
 use Rattle.text.specs.TextLaws.{lays-as}
@@ -11,7 +12,7 @@ use Rattle.room_lines.proofs.put_submissions.Tie as tie
 
 abbrev Inv-loop : tie.InvT-loop
 Inv-loop out₀ at requests ticks n count place₀ i₀ out place i =
-    (count ≤ 64)
+    (count ≤ requestsMax)
     × Rest out₀ at (linesFrom 0 count (submissionAt requests ticks)) out place (linesFrom i (count - i) (submissionAt requests ticks))
 
 abbrev μ-loop : tie.MeasureT-loop
