@@ -29,7 +29,6 @@ use Rattle.rules.specs.Switching.{missing, afterPanic, builtList, afterBuild, a
 use Rattle.ledger.specs.LedgerLaws.{total-laid, issue-laid}
 use Rattle.replica.specs.RecordLayout.{layReplica}
 use Rattle.replica.specs.RecordLaws.{note-laid, note-pair-laid, accept-laid, halt-laid, hold-laid}
-use Rattle.terms.specs.declared.Act.{Act}
 use Rattle.terms.specs.declared.Act.the-variants as Act
 use Rattle.terms.specs.declared.Decision.{Decision}
 use Rattle.terms.specs.declared.Decision.the-variants as Decision

@@ -18,7 +18,7 @@ use Rattle.terms.specs.declared.Act.the-variants as Act
 use Rattle.terms.specs.declared.Decision.{Decision}
 use Rattle.terms.specs.declared.Decision.the-variants as Decision
 use Rattle.rules.specs.Table.{ag, up, sw}
-use Rattle.rules.specs.Room.{Replica, Room, withReplica, withCondition, withMark, note, notePair, accept, issue}
+use Rattle.rules.specs.Room.{Replica, Room, withReplica, withCondition, withMark, note, accept, issue}
 use Rattle.rules.specs.Reading.{isRunning, isClosed, isFaulty, isContent, firstOf, secondOf, agTotal, settledCount, heldList}
 use Rattle.rules.specs.Sight.{Sight, isNew}
 use Rattle.rules.specs.Outcome.{refuseIf}

@@ -4,7 +4,6 @@ use mathlib.Core.Bool.{Bool}
 use Rattle.terms.specs.Lists.{pick}
 use Rattle.terms.specs.declared.Answer.{Answer}
 use Rattle.terms.specs.declared.Answer.the-variants.{Taken}
-use Rattle.terms.specs.declared.Act.{Act}
 use Rattle.terms.specs.declared.Decision.{Decision}
 use Rattle.terms.specs.declared.Decision.the-variants as Decision
 use Rattle.rules.specs.Room.{Room}

@@ -5,6 +5,7 @@ use mathlib.Core.Bool.{Bool, true, false, not, _&&_, _||_}
 use mathlib.Core.Logic.{_≢_}
 use mathlib.Core.Option.{Option, none, some}
 use mathlib.Core.List.{List}
+use Prim.{Unit, tt}
 use Prim.Native.Nat.{ℕ, suc, _≤_, _<_}
 use native.Mathlib.Omega.{arith}
 use lib.ListN.{length}
@@ -146,7 +147,7 @@ module _ (kit : Kit) (r : Room) (e : Event) (x : ℕ) where
 
   -- a refusal says nothing
   abbrev pub Tested : Decision → Type 0
-  Tested (Decision.Refuse answer) = 0 ≤ 0
+  Tested (Decision.Refuse answer) = Unit
   Tested (Decision.Submit request) = ToSubmit request
   Tested (Decision.Issue y name content) = ToIssue y name content
   Tested (Decision.Act act) = ToAct act
@@ -160,7 +161,7 @@ module _ (kit : Kit) (r : Room) where
   -- down a chain of refusals: of what follows a test it is known that the test failed
   past : (e : Event) (x : ℕ) (t : Bool) (a : Answer) (d : Decision) → (t ≡ false → Tested kit r e x d) → Tested kit r e x (refuseIf t a d)
   unfolding refuseIf
-  past e x true a d f = omega arith
+  past e x true a d f = tt
   past e x false a d f = f refl
 
   module _ (sender value to : ℕ) where
