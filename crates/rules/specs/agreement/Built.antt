@@ -14,7 +14,6 @@ use Rattle.terms.specs.Kit.{Kit, Entry}
 use Rattle.terms.specs.declared.Event.{Event}
 use Rattle.terms.specs.declared.Event.the-variants.{Build}
 use Rattle.terms.specs.declared.Act.{Act}
-use Rattle.terms.specs.declared.Act.the-variants as Act
 use Rattle.terms.specs.declared.Decision.{Decision}
 use Rattle.terms.specs.declared.Decision.the-variants as Decision
 use Rattle.terms.specs.declared.Answer.the-variants.{Taken}
@@ -27,7 +26,7 @@ use Rattle.rules.specs.Switching.{built, afterBuild, afterHand}
 use Rattle.rules.specs.Decide.{concerned, decide, acted, carryOut}
 use Rattle.rules.specs.Play.{onEvent, step, play, after, answer}
 use Rattle.rules.specs.laws.Growth.{after-suc}
-use Rattle.rules.specs.laws.Holding.{calm-submit, calm-acted, calm-faulty-issue, step-keeps}
+use Rattle.rules.specs.laws.Holding.{calm-submit, act-holds, calm-faulty-issue, step-keeps}
 use Rattle.rules.specs.laws.Filings.{built-held, CanBuild, taken-can, build-once}
 use Rattle.rules.specs.laws.Tested.{ToAct, Tested, tested}
 use Rattle.rules.specs.laws.Refused.{tick-ticked}
@@ -100,14 +99,10 @@ module _ (kit : Kit) where
 
   -- whatever is done but a build leaves what it holds
   holding-acted : (r : Room) (e : Event) (x : ℕ) (act : Act) → ToAct kit r e x act → holding (acted kit r x act) ≡ holding r
-  unfolding acted afterHand issue
-  holding-acted r e x (Act.Prepare s v q) t = calm-acted kit r e x (Act.Prepare s v q) refl t .held-same (switchLeader kit)
-  holding-acted r e x (Act.Commit s v) t = calm-acted kit r e x (Act.Commit s v) refl t .held-same (switchLeader kit)
-  holding-acted r e x (Act.KnownPair s v) t = calm-acted kit r e x (Act.KnownPair s v) refl t .held-same (switchLeader kit)
-  holding-acted r e x (Act.NewPair s v q m) t = calm-acted kit r e x (Act.NewPair s v q m) refl t .held-same (switchLeader kit)
-  holding-acted r e x (Act.Switch s v) t = calm-acted kit r e x (Act.Switch s v) refl t .held-same (switchLeader kit)
-  holding-acted r e x (Act.Hand h) t = ap (λ (p : Replica). p .held) (replica-other r x _ (switchLeader kit) (λ z. t .other (sym z)))
-  holding-acted r e x Act.Panic t = calm-acted kit r e x Act.Panic refl t .held-same (switchLeader kit)
+  unfolding afterHand issue
+  holding-acted r e x =
+      act-holds kit r e x (λ z. holding z ≡ holding r) (λ r₁ c. c .held-same (switchLeader kit))
+      (λ h t. ap (λ (p : Replica). p .held) (replica-other r x _ (switchLeader kit) (λ z. t .other (sym z))))
 
   -- the event after which it holds history h
   record Builds (r : Room) (e : Event) (list : List ℕ) (h : ℕ) : Type 0 where

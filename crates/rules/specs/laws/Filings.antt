@@ -19,7 +19,6 @@ use Rattle.terms.specs.declared.Content.{Content}
 use Rattle.terms.specs.declared.Event.{Event}
 use Rattle.terms.specs.declared.Event.the-variants.{Build}
 use Rattle.terms.specs.declared.Act.{Act}
-use Rattle.terms.specs.declared.Act.the-variants as Act
 use Rattle.terms.specs.declared.Decision.{Decision}
 use Rattle.terms.specs.declared.Decision.the-variants as Decision
 use Rattle.terms.specs.declared.Answer.the-variants.{Taken, CannotBuild}
@@ -34,7 +33,7 @@ use Rattle.rules.specs.Decide.{concerned, decide, acted, carryOut}
 use Rattle.rules.specs.Play.{onEvent, step, play, after, answer}
 use Rattle.rules.specs.laws.Growth.{after-suc}
 use Rattle.rules.specs.laws.Tested.{none-of, ToAct, Tested, tested}
-use Rattle.rules.specs.laws.Holding.{Calm, FaultyFew, calm-submit, calm-acted, calm-faulty-issue, calm-tick}
+use Rattle.rules.specs.laws.Holding.{Calm, FaultyFew, calm-submit, act-holds, calm-faulty-issue, calm-tick}
 use Rattle.rules.specs.laws.Holding.{tick-keeps, after-keeps}
 
 -- what a correct replica has issued on sw
@@ -149,14 +148,8 @@ few-build kit r few filing fs free =
 
 module _ (kit : Kit) (r : Room) (few : FilesFew kit r) (e : Event) (x : ℕ) where
   few-acted : (act : Act) → ToAct kit r e x act → FilesFew kit (acted kit r x act)
-  unfolding acted
-  few-acted (Act.Prepare sender value request) t = few-calm kit (calm-acted kit r e x (Act.Prepare sender value request) refl t) few
-  few-acted (Act.Commit sender value) t = few-calm kit (calm-acted kit r e x (Act.Commit sender value) refl t) few
-  few-acted (Act.KnownPair sender value) t = few-calm kit (calm-acted kit r e x (Act.KnownPair sender value) refl t) few
-  few-acted (Act.NewPair sender value request mark) t = few-calm kit (calm-acted kit r e x (Act.NewPair sender value request mark) refl t) few
-  few-acted (Act.Switch sender value) t = few-calm kit (calm-acted kit r e x (Act.Switch sender value) refl t) few
-  few-acted (Act.Hand history) t = few-hold kit r few x history (t .other) (t .correct) (t .free)
-  few-acted Act.Panic t = few-calm kit (calm-acted kit r e x Act.Panic refl t) few
+  few-acted =
+      act-holds kit r e x (FilesFew kit) (λ r₁ c. few-calm kit c few) (λ h t. few-hold kit r few x h (t .other) (t .correct) (t .free))
 
   few-carried : (d : Decision) (list : List ℕ) → Tested kit r e x d → FilesFew kit (carryOut kit r x d list)
   unfolding carryOut

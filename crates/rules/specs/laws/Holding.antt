@@ -1,6 +1,6 @@
 -- What stays with a replica once it has it: a held history, a closed condition, being faulty. In every play of any kit. Assumes nothing.
 use mathlib.Core.Path.{_≡_, refl, sym, ap, _∙_}
-use mathlib.Core.Bool.{Bool, true, false, _&&_}
+use mathlib.Core.Bool.{true, false, _&&_}
 use mathlib.Core.Logic.{_≢_}
 use mathlib.Core.Option.{none, some}
 use mathlib.Core.List.{List, [], _∷_, _++_}
@@ -33,7 +33,7 @@ use Rattle.rules.specs.Switching.{afterPanic, afterBuild, afterHand}
 use Rattle.rules.specs.Decide.{concerned, decide, acted, carryOut}
 use Rattle.rules.specs.Play.{onEvent, step, play, after}
 use Rattle.rules.specs.laws.Growth.{after-later}
-use Rattle.rules.specs.laws.Tested.{ToAct, ToIssue, Tested, tested}
+use Rattle.rules.specs.laws.Tested.{ToHand, ToAct, ToIssue, Tested, tested}
 
 -- ---- what stays
 
@@ -190,30 +190,24 @@ calm-submit kit r request =
     (noted .faulty-same leader ∙ run))))
     (λ t. calm-remember r request)
 
--- whether the replica takes hold of a history
-abbrev pub takesHold : Act → Bool
-takesHold (Act.Prepare sender value request) = false
-takesHold (Act.Commit sender value) = false
-takesHold (Act.KnownPair sender value) = false
-takesHold (Act.NewPair sender value request mark) = false
-takesHold (Act.Switch sender value) = false
-takesHold (Act.Hand history) = true
-takesHold Act.Panic = false
-
 module _ (kit : Kit) (r : Room) (e : Event) (x : ℕ) where
-  pub calm-acted : (act : Act) → takesHold act ≡ false → ToAct kit r e x act → Calm r (acted kit r x act)
+  -- whatever x does, everyone holds what it held, or x takes hold of a history: what is true of both is true of every act
+  pub act-holds : (P : Room → Type 0) → ((r₁ : Room) → Calm r r₁ → P r₁) → ((h : ℕ) → ToHand kit r e x h → P (afterHand r x h))
+      → (act : Act) → ToAct kit r e x act → P (acted kit r x act)
   unfolding acted afterPrepare afterCommit afterUpdate afterSwitch afterPanic accept note notePair withMark withCondition issue
-  calm-acted (Act.Prepare sender value request) n t =
-      let fx = t .delivered .correct in calm-trans (calm-issue r x ag _ (omega arith) fx) (calm-settle _ x _ _ _ refl refl fx)
-  calm-acted (Act.Commit sender value) n t = calm-settle r x _ _ _ refl refl (t .delivered .correct)
-  calm-acted (Act.KnownPair sender value) n t = let fx = t .delivered .correct in calm-record r x _ refl (λ d. d) fx fx
-  calm-acted (Act.NewPair sender value request mark) n t = let fx = t .delivered .correct in calm-record r x _ refl (λ d. d) fx fx
-  calm-acted (Act.Switch sender value) n t =
+  act-holds P calm holds (Act.Prepare sender value request) t =
+      let fx = t .delivered .correct in calm _ (calm-trans (calm-issue r x ag _ (omega arith) fx) (calm-settle _ x _ _ _ refl refl fx))
+  act-holds P calm holds (Act.Commit sender value) t = calm _ (calm-settle r x _ _ _ refl refl (t .delivered .correct))
+  act-holds P calm holds (Act.KnownPair sender value) t = let fx = t .delivered .correct in calm _ (calm-record r x _ refl (λ d. d) fx fx)
+  act-holds P calm holds (Act.NewPair sender value request mark) t =
+      let fx = t .delivered .correct in calm _ (calm-record r x _ refl (λ d. d) fx fx)
+  act-holds P calm holds (Act.Switch sender value) t =
       let fx = t .delivered .correct in
-      pick-elim (λ z. Calm r z) (leb (kit .f) (switches kit (accept (r .replica x) sender sw value)))
-      (λ closes. calm-record r x _ refl (λ d. refl) refl fx) (λ waits. calm-record r x _ refl (λ d. d) fx fx)
-  calm-acted (Act.Hand history) n t = no-way (cc (n))
-  calm-acted Act.Panic n t = calm-record r x _ refl (λ d. no-way (cc (running-open (r .replica x .condition) (t .running), d))) refl (t .correct)
+      calm _ (pick-elim (λ z. Calm r z) (leb (kit .f) (switches kit (accept (r .replica x) sender sw value)))
+      (λ closes. calm-record r x _ refl (λ d. refl) refl fx) (λ waits. calm-record r x _ refl (λ d. d) fx fx))
+  act-holds P calm holds (Act.Hand history) t = holds history t
+  act-holds P calm holds Act.Panic t =
+      calm _ (calm-record r x _ refl (λ d. no-way (cc (running-open (r .replica x .condition) (t .running), d))) refl (t .correct))
 
   pub calm-faulty-issue : (y name : ℕ) (content : Content) → ToIssue kit r e x y name content → Calm r (issue r y name content)
   calm-faulty-issue y name content t = calm-faulty r y name content (t .faulty) (t .few)
@@ -237,14 +231,9 @@ keeps-records e k = record { held = rw e (k .held); closed = rw e (k .closed); f
 
 module _ (kit : Kit) (r : Room) (e : Event) (x : ℕ) where
   keeps-acted : (act : Act) → ToAct kit r e x act → Keeps r (acted kit r x act)
-  unfolding acted afterHand issue
-  keeps-acted (Act.Prepare sender value request) t = calm-keeps (calm-acted kit r e x (Act.Prepare sender value request) refl t)
-  keeps-acted (Act.Commit sender value) t = calm-keeps (calm-acted kit r e x (Act.Commit sender value) refl t)
-  keeps-acted (Act.KnownPair sender value) t = calm-keeps (calm-acted kit r e x (Act.KnownPair sender value) refl t)
-  keeps-acted (Act.NewPair sender value request mark) t = calm-keeps (calm-acted kit r e x (Act.NewPair sender value request mark) refl t)
-  keeps-acted (Act.Switch sender value) t = calm-keeps (calm-acted kit r e x (Act.Switch sender value) refl t)
-  keeps-acted (Act.Hand history) t = keeps-records refl (keeps-hold r x history (t .correct) (t .free))
-  keeps-acted Act.Panic t = calm-keeps (calm-acted kit r e x Act.Panic refl t)
+  unfolding afterHand issue
+  keeps-acted =
+      act-holds kit r e x (λ z. Keeps r z) (λ r₁ c. calm-keeps c) (λ h t. keeps-records refl (keeps-hold r x h (t .correct) (t .free)))
 
   keeps-carried : (d : Decision) (list : List ℕ) → Tested kit r e x d → Keeps r (carryOut kit r x d list)
   unfolding carryOut afterBuild afterFile issue withReplica withHistory

@@ -45,14 +45,7 @@ module _ (kit : Kit) (patience : ℕ) (events : List Entry) where
 
   concerned-same : (e : Event) → concerned (sameTable kit patience events) e ≡ concerned kit e
   unfolding sameTable concerned actives switchLeader
-  concerned-same (Submit request) = refl
-  concerned-same (Issue x name content) = refl
-  concerned-same (Deliver sender name value to) = refl
-  concerned-same (Hand p q to) = refl
-  concerned-same (Panic to) = refl
-  concerned-same Idle = refl
-  concerned-same Build = refl
-  concerned-same (File j k) = refl
+  concerned-same e = refl
 
   -- and the same is done
   acted-same : (r : Room) (x : ℕ) (act : Act) → acted (sameTable kit patience events) r x act ≡ acted kit r x act
