@@ -2,7 +2,7 @@
 // The player goes through `applied`, which lends the record of the replica concerned to `apply_in`.
 ghost use mathlib.Core.Path.{_≡_};
 ghost use Rattle.ledger.specs.Ledger.{book};
-ghost use Rattle.replica.specs.Record.{haltOn, holdOn, closeOn};
+ghost use Rattle.replica.specs.Record.{holdOn, closeOn};
 ghost use Rattle.carry_out.specs.Apply.{applied, applyOn};
 use ledger::Issued;
 use ledger::Ledger;
@@ -43,13 +43,6 @@ pub fn apply_in(
         ledger,
         issued,
     );
-}
-
-// A running replica halts; any other stays as it is.
-pub fn halt_in(r: &mut Replica)
-    ensures { λ _. ⌜ now (r .exit) ≡ haltOn (now (r .entry)) ⌝ }
-{
-    *r = r.halt();
 }
 
 // Holds a handed history.
