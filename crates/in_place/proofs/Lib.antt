@@ -1,9 +1,3 @@
-pub mod Argument
-pub mod At
-pub mod AtWith
-pub mod By
-pub mod ByWith
-pub mod Certificates
 pub mod Lent
+pub mod Passed
 pub mod Thin
-pub mod ThinWith

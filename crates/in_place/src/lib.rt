@@ -1,48 +1,48 @@
-// Records changed where they stand. A thin function is lent one replica's record, calls the step of crate `replica` that gives the record
-// anew, and stores what it gives.
+// Records changed where they stand. A thin function is lent one replica's record by `&mut`, calls the by-value step and stores what it gives.
+// The player goes through `applied`, which lends the record of the replica concerned to `apply_in`.
 ghost use mathlib.Core.Path.{_≡_};
-ghost use Rattle.replica.specs.Record.{noteOn, haltOn, holdOn, closeOn};
-ghost use Rattle.in_place.specs.ChangedAt.{changedAt};
-ghost use Rattle.in_place.specs.Delivered.{deliveredOn};
+ghost use Rattle.ledger.specs.Ledger.{book};
+ghost use Rattle.replica.specs.Record.{holdOn, closeOn};
+ghost use Rattle.carry_out.specs.Apply.{applied, applyOn};
+use ledger::Issued;
+use ledger::Ledger;
 use replica::Replica;
-use replica::Replicas;
-use terms::REPLICAS;
+use room::Desk;
+use room::Roles;
+use terms::Decision;
+use terms::Heads;
+use terms::Lists;
+use terms::Table;
 
-// What is delivered of a certificate: whose counter it is of, the counter's name, and the value.
-pub struct Certificate {
-    pub replica: usize,
-    pub name: usize,
-    pub value: u32,
-}
+// ---- a record that is lent
 
-// The record after a delivery: the value is the last one accepted of that counter.
-pub fn deliver(p: Replica, c: Certificate) -> Replica
-    ensures { λ r. ⌜ r ≡ deliveredOn p c ⌝ }
+// What a decision does to the record of the replica concerned, `me`, and to the counters.
+pub fn apply_in(
+    r: &mut Replica,
+    decision: Decision,
+    desk: Desk,
+    me: usize,
+    roles: Roles,
+    table: &Table,
+    heads: &Heads,
+    lists: &Lists,
+    ledger: &mut Ledger,
+    issued: &mut Issued,
+)
+    ensures { λ _. ⌜ applied (now (r .exit)) (book (now (ledger .exit)) (now (issued .exit))) ≡ applyOn (now (r .entry)) decision desk me roles (now (table .entry)) (now (heads .entry)) (now (lists .entry)) (book (now (ledger .entry)) (now (issued .entry))) ⌝ }
 {
-    p.accept(c.replica, c.name, c.value)
-}
-
-// ---- one record, where it stands
-
-// A running replica halts; any other stays as it is.
-pub fn halt_in(r: &mut Replica)
-    ensures { λ _. ⌜ now (r .exit) ≡ haltOn (now (r .entry)) ⌝ }
-{
-    *r = r.halt();
-}
-
-// Notes a request.
-pub fn note_in(r: &mut Replica, request: u32)
-    ensures { λ _. ⌜ now (r .exit) ≡ noteOn (now (r .entry)) request ⌝ }
-{
-    *r = r.note(request);
-}
-
-// A certificate is delivered.
-pub fn deliver_in(r: &mut Replica, c: Certificate)
-    ensures { λ _. ⌜ now (r .exit) ≡ deliveredOn (now (r .entry)) c ⌝ }
-{
-    *r = deliver(*r, c);
+    *r = carry_out::apply(
+        *r,
+        decision,
+        desk,
+        me,
+        roles,
+        table,
+        heads,
+        lists,
+        ledger,
+        issued,
+    );
 }
 
 // Holds a handed history.
@@ -59,82 +59,35 @@ pub fn close_in(r: &mut Replica, mark: u32)
     *r = r.close(mark);
 }
 
-// ---- one of the room's seven records, where it stands; all others are untouched, and past the end nothing is changed
+// ---- a record that is given, for the player's loop, which cannot lend one itself
 
-// Replica x halts.
-pub fn halt_at(replicas: &mut Replicas, x: usize)
-    ensures { λ _. ⌜ now (replicas .exit) ≡ changedAt haltOn x (now (replicas .entry)) ⌝ }
+// The record with the decision applied: it stands here and is lent to `apply_in`.
+pub fn applied(
+    p: Replica,
+    decision: Decision,
+    desk: Desk,
+    me: usize,
+    roles: Roles,
+    table: &Table,
+    heads: &Heads,
+    lists: &Lists,
+    ledger: &mut Ledger,
+    issued: &mut Issued,
+) -> Replica
+    ensures { λ r. ⌜ applied r (book (now (ledger .exit)) (now (issued .exit))) ≡ applyOn p decision desk me roles (now (table .entry)) (now (heads .entry)) (now (lists .entry)) (book (now (ledger .entry)) (now (issued .entry))) ⌝ }
 {
-    if REPLICAS <= x {
-        return;
-    }
-    halt_in(&mut replicas[x]);
-}
-
-// A certificate is delivered to replica x.
-pub fn deliver_at(replicas: &mut Replicas, x: usize, c: Certificate)
-    ensures { λ _. ⌜ now (replicas .exit) ≡ changedAt (λ p. deliveredOn p c) x (now (replicas .entry)) ⌝ }
-{
-    if REPLICAS <= x {
-        return;
-    }
-    deliver_in(&mut replicas[x], c);
-}
-
-// Replica x holds a handed history.
-pub fn hold_at(replicas: &mut Replicas, x: usize, history: u32)
-    ensures { λ _. ⌜ now (replicas .exit) ≡ changedAt (λ p. holdOn p history) x (now (replicas .entry)) ⌝ }
-{
-    if REPLICAS <= x {
-        return;
-    }
-    hold_in(&mut replicas[x], history);
-}
-
-// Replica x closes, with the mark of the list that it has settled.
-pub fn close_at(replicas: &mut Replicas, x: usize, mark: u32)
-    ensures { λ _. ⌜ now (replicas .exit) ≡ changedAt (λ p. closeOn p mark) x (now (replicas .entry)) ⌝ }
-{
-    if REPLICAS <= x {
-        return;
-    }
-    close_in(&mut replicas[x], mark);
-}
-
-// ---- the seven by value, for every other caller
-
-// The records with replica x halted.
-pub fn with_halted(all: Replicas, x: usize) -> Replicas
-    ensures { λ r. ⌜ r ≡ changedAt haltOn x all ⌝ }
-{
-    let mut replicas = all;
-    halt_at(&mut replicas, x);
-    replicas
-}
-
-// The records with a certificate delivered to replica x.
-pub fn with_delivered(all: Replicas, x: usize, c: Certificate) -> Replicas
-    ensures { λ r. ⌜ r ≡ changedAt (λ p. deliveredOn p c) x all ⌝ }
-{
-    let mut replicas = all;
-    deliver_at(&mut replicas, x, c);
-    replicas
-}
-
-// The records with a history held by replica x.
-pub fn with_held(all: Replicas, x: usize, history: u32) -> Replicas
-    ensures { λ r. ⌜ r ≡ changedAt (λ p. holdOn p history) x all ⌝ }
-{
-    let mut replicas = all;
-    hold_at(&mut replicas, x, history);
-    replicas
-}
-
-// The records with replica x closed.
-pub fn with_closed(all: Replicas, x: usize, mark: u32) -> Replicas
-    ensures { λ r. ⌜ r ≡ changedAt (λ p. closeOn p mark) x all ⌝ }
-{
-    let mut replicas = all;
-    close_at(&mut replicas, x, mark);
-    replicas
+    let mut record = p;
+    apply_in(
+        &mut record,
+        decision,
+        desk,
+        me,
+        roles,
+        table,
+        heads,
+        lists,
+        ledger,
+        issued,
+    );
+    record
 }

@@ -55,11 +55,11 @@ use Rattle.carry_out.proofs.apply as apply
 use Rattle.carry_out.proofs.apply.Symbol as apply-def
 use Rattle.carry_out.proofs.apply.Symbol.{name as #apply}
 use Rattle.carry_out.proofs.apply.Met as apply-thm
-use Rattle.event_in_place.proofs.Passed.{rest, all-left, all-fit, all-go}
-use Rattle.event_in_place.proofs.apply_in.Key.{name as #apply-in}
-use Rattle.event_in_place.proofs.apply_in as apply-in
-use Rattle.event_in_place.proofs.apply_in.Statement as stated
-use Rattle.event_in_place.proofs.apply_in.Code as code
+use Rattle.in_place.proofs.Passed.{rest, all-left, all-fit, all-go}
+use Rattle.in_place.proofs.apply_in.Key.{name as #apply-in}
+use Rattle.in_place.proofs.apply_in as apply-in
+use Rattle.in_place.proofs.apply_in.Statement as stated
+use Rattle.in_place.proofs.apply_in.Code as code
 
 abbrev passed : List (Slot 6)
 passed = rest (apply-in.signature .params)

@@ -1,2 +1,0 @@
-pub mod ChangedAt
-pub mod Delivered
