@@ -96,7 +96,7 @@ pub fn play(
             lists,
         );
         if carry_out::moves(decision) {
-            let q = carry_out::apply(
+            let q = in_place::applied(
                 p,
                 decision,
                 desk,
