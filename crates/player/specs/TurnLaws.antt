@@ -10,13 +10,13 @@ use lib.Dec.{leb}
 use borrow.Author.Tests.{leb-false}
 use Rattle.terms.specs.ListLaws.{split}
 use Rattle.terms.specs.declared.Event.{Event}
-use Rattle.terms.specs.declared.Event.the-variants as Event
 use Rattle.ledger.specs.Ledger.{book}
 use Rattle.room.specs.declared.Desk.{Desk}
 use Rattle.room.specs.declared.Roles.{Roles}
 use Rattle.terms.specs.declared.Decision.{Decision}
 use Rattle.room.specs.Desk.{countedOn}
 use Rattle.rules.specs.Outcome.{answerOf}
+use Rattle.rules.specs.Decide.{concernedBy}
 use Rattle.terms.specs.Numbers.{answerNumber}
 use Rattle.kit.specs.Reader.{nextIn, listAfter}
 use Rattle.kit.specs.declared.Next.{Next}
@@ -60,14 +60,7 @@ seven n = split (leb 7 n) (λ t. rw t (omega arith)) (λ t. rw t (leb-false 7 n 
 
 pub concerned-seven : (event : Event) (roles : Roles) → concernedIn event roles < 7
 unfolding concernedIn
-concerned-seven (Event.Submit request) roles = seven (roles .leader)
-concerned-seven (Event.Issue replica name content) roles = seven replica
-concerned-seven (Event.Deliver sender name value to) roles = seven to
-concerned-seven (Event.Hand p q to) roles = seven to
-concerned-seven (Event.Panic to) roles = seven to
-concerned-seven Event.Idle roles = omega arith
-concerned-seven Event.Build roles = seven (roles .switcher)
-concerned-seven (Event.File j k) roles = omega arith
+concerned-seven event roles = seven (concernedBy (roles .leader) (roles .switcher) event)
 
 -- one event more
 pub turns-next : (bytes : List ℕ) (roles : Roles) (table : List ℕ) (k n : ℕ) (s : Stage) → k < n
