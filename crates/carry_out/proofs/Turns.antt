@@ -8,6 +8,7 @@ use native.Mathlib.Numerals.{add-one}
 use lib.ListN.{length, take, drop, getD, length-take, drop-of-length-le}
 use lib.Seq.{drop-cons, getD-take}
 use lib.Dec.{leb}
+use Rattle.terms.specs.Limits.{requestsMax}
 use Rattle.terms.specs.Lists.{holds}
 use Rattle.terms.specs.ListLaws.{split}
 use Rattle.terms.specs.Mark.{nextMark, markFrom, markOf}
@@ -47,7 +48,7 @@ module _ {list : List ℕ} {n mark i : ℕ} (s : Marking list n mark i) where
 -- ---- a row to which the missing ones of the first n of a list go
 
 -- a full row stays as it is
-full : (r : Row) (l : List ℕ) → leb 64 (r .count) ≡ true → storeAll r l ≡ r
+full : (r : Row) (l : List ℕ) → leb requestsMax (r .count) ≡ true → storeAll r l ≡ r
 full r [] e = refl
 full r (q ∷ qs) e = rw e
 
@@ -63,7 +64,7 @@ module _ {noted list : List ℕ} {n : ℕ} {start r : Row} {i : ℕ} (s : Append
             s .rest
             ∙ rw (looks-at list n i below within)
             (split (holds (getD list i 0) noted) (λ e. rw e)
-            (λ e. split (leb 64 (r .count)) (λ f. rw (e, f, full r (missing noted (drop (i + 1) (take n list))) f)) (λ f. rw (e, f))));
+            (λ e. split (leb requestsMax (r .count)) (λ f. rw (e, f, full r (missing noted (drop (i + 1) (take n list))) f)) (λ f. rw (e, f))));
       }
 
   pub appended-count : n ≤ i → r ≡ storeAll start (missing noted (take n list))

@@ -5,11 +5,12 @@ use mathlib.Core.List.{List, []}
 use Prim.Native.Nat.{ℕ}
 use lib.ListN.{getD, take}
 use lib.Dec.{leb, ltb}
+use Rattle.terms.specs.Lent.{Table, Heads, Lists}
+use Rattle.terms.specs.Limits.{ag, up, sw, requestsMax, historiesMax}
 use Rattle.terms.specs.Lists.{pick}
 use Rattle.terms.specs.Mark.{nextMark, markOf}
 use Rattle.terms.specs.declared.Content.{Content}
 use Rattle.terms.specs.declared.Content.the-variants as Content
-use Rattle.rules.specs.Table.{ag, up, sw}
 use Rattle.rules.specs.Reading.{isRunning}
 use Rattle.ledger.specs.Ledger.{Book, totalOf, issueOn}
 use Rattle.replica.specs.declared.Replica.{Replica}
@@ -38,7 +39,7 @@ issuing b x name content = issueOn (b .ledger) (b .issued) x name content
 
 -- the request at a place, 0 past the end
 unfoldable pub requestAt : List ℕ → ℕ → ℕ
-requestAt list c = pick (leb 64 c) 0 (getD list c 0)
+requestAt list c = pick (leb requestsMax c) 0 (getD list c 0)
 
 -- the settled count was c and is now d
 unfoldable pub settleOn : Replica → ℕ → ℕ → ℕ → Book → Applied
@@ -71,12 +72,12 @@ pairOn p sender value me leader table =
     markOn q (markIn (q .marks) (settledIn (q .accepted) table leader me 0))
 
 -- the mark of the list that is held
-unfoldable pub heldMark : Bool → ℕ → List (List ℕ) → List (List ℕ) → ℕ
+unfoldable pub heldMark : Bool → ℕ → Heads → Lists → ℕ
 heldMark holding held heads lists =
-    pick holding (pick (leb 8 held) 0 (markOf (take (getD (getD heads held []) 2 0) (getD lists held [])))) 0
+    pick holding (pick (leb historiesMax held) 0 (markOf (take (getD (getD heads held []) 2 0) (getD lists held [])))) 0
 
 -- with f senders accepted it closes
-unfoldable pub switchOn : Replica → ℕ → ℕ → ℕ → ℕ → List (List ℕ) → List (List ℕ) → Replica
+unfoldable pub switchOn : Replica → ℕ → ℕ → ℕ → ℕ → Heads → Lists → Replica
 switchOn p sender value f size heads lists =
     let q = acceptOn p sender sw value in
     pick (ltb (switchesIn (q .accepted) size) f) q (closeOn q (heldMark (q .holding) (q .held) heads lists))
@@ -86,10 +87,10 @@ handOn p history me b = applied (holdOn p history) (issuing b me sw (Content.Swi
 
 -- h histories were filed before
 unfoldable pub buildOn : Replica → ℕ → ℕ → Book → Applied
-buildOn p h me b = pick (leb 8 h) (applied p b) (handOn p h me (issuing (issuing b me ag (Content.History h)) me up (Content.History h)))
+buildOn p h me b = pick (leb historiesMax h) (applied p b) (handOn p h me (issuing (issuing b me ag (Content.History h)) me up (Content.History h)))
 
 -- what replica `me` does at what has reached it
-unfoldable pub actOn : Replica → Act → ℕ → Roles → List ℕ → List (List ℕ) → List (List ℕ) → Book → Applied
+unfoldable pub actOn : Replica → Act → ℕ → Roles → Table → Heads → Lists → Book → Applied
 actOn p (Act.Prepare sender value request) me roles table heads lists b = prepareOn p sender value request me (roles .leader) table b
 actOn p (Act.Commit sender value) me roles table heads lists b = commitOn p sender value me (roles .leader) table b
 actOn p (Act.KnownPair sender value) me roles table heads lists b = applied (pairOn p sender value me (roles .leader) table) b
@@ -99,7 +100,7 @@ actOn p (Act.Switch sender value) me roles table heads lists b = applied (switch
 actOn p (Act.Hand history) me roles table heads lists b = handOn p history me b
 actOn p Act.Panic me roles table heads lists b = applied (haltOn p) b
 
-unfoldable pub applyOn : Replica → Decision → Desk → ℕ → Roles → List ℕ → List (List ℕ) → List (List ℕ) → Book → Applied
+unfoldable pub applyOn : Replica → Decision → Desk → ℕ → Roles → Table → Heads → Lists → Book → Applied
 applyOn p (Submit request) desk me roles table heads lists b = leadOn p request me b
 applyOn p (Issue replica name content) desk me roles table heads lists b = applied p (issuing b replica name content)
 applyOn p (Decision.Act act) desk me roles table heads lists b = actOn p act me roles table heads lists b

@@ -9,6 +9,7 @@ use native.Mathlib.Numerals.{add-one}
 use lib.ListN.{length, getD, set}
 use lib.Dec.{leb, ltb}
 use borrow.Author.Tests.{lt-ltb, lt-leb}
+use Rattle.terms.specs.Limits.{replicasMax, ag, up, sw, names, placesMax, requestsMax, historiesMax}
 use Rattle.terms.specs.Lists.{pick, holds}
 use Rattle.terms.specs.ListLaws.{split, no-way, length-snoc, eqb-same}
 use Rattle.terms.specs.Padding.{pad, set-pad}
@@ -19,7 +20,6 @@ use Rattle.terms.specs.declared.Content.the-variants as Content
 use Rattle.terms.specs.declared.Condition.{Condition}
 use Rattle.terms.specs.declared.Condition.the-variants.{Running, Halted, Closed, Faulty}
 use Rattle.terms.specs.declared.Answer.{Answer}
-use Rattle.rules.specs.Table.{ag, up, sw}
 use Rattle.rules.specs.Room.{Room, Filing, put1, withReplica, withHistory, issue, remember, withCondition, withMark, note, notePair, accept, hold}
 use Rattle.rules.specs.Room as Rules
 use Rattle.rules.specs.Reading.{isRunning, isFaulty, settledCount, heldList, agTotal}
@@ -66,13 +66,13 @@ unfolding layRoom layDesk
 acted-laid r known g me p = rw (store-replica (r .replica) me p)
 
 -- its record stays
-stays-laid : (r : Room) (known : ℕ) (me : ℕ) → me < 7
+stays-laid : (r : Room) (known : ℕ) (me : ℕ) → me < replicasMax
     → acting (layRoom r known) me (applied (layReplica (r .replica me)) (layBook (r .counter))) ≡ layRoom r known
 unfolding layRoom
 stays-laid r known me below = rw (keep-replica (r .replica) me below)
 
 -- replica x issues, its record stays
-issued-laid : (r : Room) (known me x name : ℕ) (content : Content) → me < 7
+issued-laid : (r : Room) (known me x name : ℕ) (content : Content) → me < replicasMax
     → acting (layRoom r known) me (applied (layReplica (r .replica me)) (layBook (issuedMore (r .counter) x name content))) ≡ layRoom (issue r x name content) known
 unfolding layRoom layDesk issue
 issued-laid r known me x name content below = rw (keep-replica (r .replica) me below)
@@ -91,7 +91,7 @@ running-correct Faulty e = no-way (cc)
 
 -- ---- settling
 
-settled-as : (r : Room) (known me c d : ℕ) (p : Rules.Replica) → me < 7 → length (p .noted) ≤ 64 → length (r .counter me up) < 96
+settled-as : (r : Room) (known me c d : ℕ) (p : Rules.Replica) → me < replicasMax → length (p .noted) ≤ requestsMax → length (r .counter me up) < placesMax
     → acting (layRoom r known) me (settleOn (layReplica p) c d me (layBook (r .counter))) ≡ layRoom (settle r me p c d) known
 unfolding settle withReplica issue
 settled-as r known me c d p below h room =
@@ -104,33 +104,33 @@ settled-as r known me c d p below h room =
 
 -- ---- each decision
 
-module _ (kit : Kit) (r : Room) (known : ℕ) (b : Bounds kit r) (me : ℕ) (below : me < 7) where
+module _ (kit : Kit) (r : Room) (known : ℕ) (b : Bounds kit r) (me : ℕ) (below : me < replicasMax) where
   -- what is claimed of a decision
   abbrev pub Done : Decision → List ℕ → Type 0
   Done decision list =
-      doneOn (layRoles kit) (layTable kit) (layRoom r known) (layReplica (r .replica me)) me decision (pad 64 list) (length list)
+      doneOn (layRoles kit) (layTable kit) (layRoom r known) (layReplica (r .replica me)) me decision (pad requestsMax list) (length list)
       ≡ layRoom (carryOut kit r me decision list) known
 
   abbrev p : Rules.Replica
   p = r .replica me
 
-  table-fits : length (kit .table) ≤ 7
+  table-fits : length (kit .table) ≤ replicasMax
   table-fits = omega (arith, b .good .table-length, b .good .f-high)
 
-  leader-below : kit .leader < 7
+  leader-below : kit .leader < replicasMax
   leader-below = omega (arith, b .good .leader-below, b .good .f-high)
 
-  own-room : (name : ℕ) → isFaulty (p .condition) ≡ false → length (r .counter me name) < 96
+  own-room : (name : ℕ) → isFaulty (p .condition) ≡ false → length (r .counter me name) < placesMax
   own-room name e = omega (arith, b .own-max me name e)
 
   -- its counter has one more
   grown : (name : ℕ) (content : Content) → length (issuedMore (r .counter) me name content me name) ≡ suc (length (r .counter me name))
   grown name content = rw (eqb-same name, eqb-same me) (length-snoc (r .counter me name) content)
 
-  pairs-max : length (p .pairMarks) ≤ 64
+  pairs-max : length (p .pairMarks) ≤ requestsMax
   pairs-max = omega (arith, b .replicas me .pairs-noted, b .replicas me .noted-max)
 
-  histories-max : length (r .histories) ≤ 8
+  histories-max : length (r .histories) ≤ historiesMax
   histories-max = omega (arith, b .histories-filed, b .filed-max)
 
   -- nothing is done
@@ -142,14 +142,14 @@ module _ (kit : Kit) (r : Room) (known : ℕ) (b : Bounds kit r) (me : ℕ) (bel
   unfolding doneOn enterOn applyOn countedOn carryOut layRoom
   done-idle list = stays-laid r known me below
 
-  pub done-issue : (x name : ℕ) (content : Content) (list : List ℕ) → x < 7 → name < 3 → length (r .counter x name) < 96 → Done (Issue x name content) list
+  pub done-issue : (x name : ℕ) (content : Content) (list : List ℕ) → x < replicasMax → name < names → length (r .counter x name) < placesMax → Done (Issue x name content) list
   unfolding doneOn enterOn applyOn countedOn carryOut layRoom
   done-issue x name content list xb nb room =
       rw (issue-laid (r .counter) x name xb nb content room) (issued-laid r known me x name content below)
 
   -- ---- on ag
 
-  pub done-commit : (sender value : ℕ) (list : List ℕ) → sender < 7 → isFaulty (p .condition) ≡ false → Done (Decision.Act (Act.Commit sender value)) list
+  pub done-commit : (sender value : ℕ) (list : List ℕ) → sender < replicasMax → isFaulty (p .condition) ≡ false → Done (Decision.Act (Act.Commit sender value)) list
   unfolding doneOn enterOn applyOn actOn countedOn carryOut acted layRoom layRoles afterCommit commitOn accept
   done-commit sender value list sb correct =
       let q = accept p sender ag value in
@@ -158,12 +158,12 @@ module _ (kit : Kit) (r : Room) (known : ℕ) (b : Bounds kit r) (me : ℕ) (bel
       rw (total-laid (r .counter) me ag below (omega arith), accept-laid p sender ag value sb (omega arith), settled p me own, settled q me own)
       (settled-as r known me (settledCount kit me p own) (settledCount kit me q own) q below (b .replicas me .noted-max) (own-room up correct))
 
-  pub done-prepare : (sender value request : ℕ) (list : List ℕ) → sender < 7 → isFaulty (p .condition) ≡ false
+  pub done-prepare : (sender value request : ℕ) (list : List ℕ) → sender < replicasMax → isFaulty (p .condition) ≡ false
       → holds request (r .submitted) ≡ true → holds request (p .noted) ≡ false
       → Done (Decision.Act (Act.Prepare sender value request)) list
   unfolding doneOn enterOn applyOn actOn countedOn carryOut acted layRoom layDesk layRoles afterPrepare prepareOn issue note accept
   done-prepare sender value request list sb correct is new =
-      let fits : length (p .noted) < 64 = noting-fits b me request is new in
+      let fits : length (p .noted) < requestsMax = noting-fits b me request is new in
       let q = accept (note p request) sender ag value in
       let own = agTotal r me in
       let content = Content.Commit request value in
@@ -176,26 +176,26 @@ module _ (kit : Kit) (r : Room) (known : ℕ) (b : Bounds kit r) (me : ℕ) (bel
 
   -- ---- on up
 
-  pub done-known-pair : (sender value : ℕ) (list : List ℕ) → sender < 7 → Done (Decision.Act (Act.KnownPair sender value)) list
+  pub done-known-pair : (sender value : ℕ) (list : List ℕ) → sender < replicasMax → Done (Decision.Act (Act.KnownPair sender value)) list
   unfolding doneOn enterOn applyOn actOn countedOn carryOut acted layRoom layRoles afterUpdate accept withReplica
   done-known-pair sender value list sb =
       let q = accept p sender up value in
       rw (pair-laid kit table-fits leader-below p sender value me sb pairs-max)
       (acted-laid r known (r .counter) me (withMark q (markOfPair (p .pairMarks) (settledCount kit me q 0))))
 
-  pub done-new-pair : (sender value request mark : ℕ) (list : List ℕ) → sender < 7
+  pub done-new-pair : (sender value request mark : ℕ) (list : List ℕ) → sender < replicasMax
       → holds request (r .submitted) ≡ true → holds request (p .noted) ≡ false → Done (Decision.Act (Act.NewPair sender value request mark)) list
   unfolding doneOn enterOn applyOn actOn countedOn carryOut acted layRoom layRoles afterUpdate accept notePair withReplica
   done-new-pair sender value request mark list sb is new =
-      let fits : length (p .noted) < 64 = noting-fits b me request is new in
+      let fits : length (p .noted) < requestsMax = noting-fits b me request is new in
       let q = accept (notePair p request mark) sender up value in
-      let pair-fits : length (p .pairMarks) < 64 = omega (arith, b .replicas me .pairs-noted) in
+      let pair-fits : length (p .pairMarks) < requestsMax = omega (arith, b .replicas me .pairs-noted) in
       rw (note-pair-laid p request mark fits pair-fits, pair-laid kit table-fits leader-below (notePair p request mark) sender value me sb (omega (arith, length-snoc (p .pairMarks) mark)))
       (acted-laid r known (r .counter) me (withMark q (markOfPair (q .pairMarks) (settledCount kit me q 0))))
 
   -- ---- on sw
 
-  pub done-switch : (sender value : ℕ) (list : List ℕ) → sender < 7 → Done (Decision.Act (Act.Switch sender value)) list
+  pub done-switch : (sender value : ℕ) (list : List ℕ) → sender < replicasMax → Done (Decision.Act (Act.Switch sender value)) list
   unfolding doneOn enterOn applyOn actOn countedOn carryOut acted layRoom layRoles afterSwitch accept withReplica
   done-switch sender value list sb =
       let q = accept p sender sw value in
@@ -217,18 +217,18 @@ module _ (kit : Kit) (r : Room) (known : ℕ) (b : Bounds kit r) (me : ℕ) (bel
 
   -- ---- what is entered
 
-  remembered : (request : ℕ) → length (r .submitted) < 64
+  remembered : (request : ℕ) → length (r .submitted) < requestsMax
       → entering (layRoom r known) (Submit request)
-      (entered (storeRequest (length (r .submitted)) request (r .clock) (pad 64 (r .submitted)) (pad 64 (r .ticks))) (filings (layHeads (r .histories)) (layLists (r .histories))))
+      (entered (storeRequest (length (r .submitted)) request (r .clock) (pad requestsMax (r .submitted)) (pad requestsMax (r .ticks))) (filings (layHeads (r .histories)) (layLists (r .histories))))
       ≡ layRoom (remember r request) known
   unfolding layRoom layDesk remember countedOn storeRequest
   remembered request room =
       let n = length (r .submitted) in
-      let ticked : set (pad 64 (r .ticks)) n (r .clock) ≡ pad 64 (r .ticks ++ (r .clock ∷ [])) = rw (← b .ticks-length) (set-pad 64 (r .ticks) (r .clock) (omega (arith, b .ticks-length))) in
-      rw (lt-leb 64 n room, set-pad 64 (r .submitted) request room, ticked, lt-ltb n 64 room, length-snoc (r .submitted) request, add-one n)
+      let ticked : set (pad requestsMax (r .ticks)) n (r .clock) ≡ pad requestsMax (r .ticks ++ (r .clock ∷ [])) = rw (← b .ticks-length) (set-pad requestsMax (r .ticks) (r .clock) (omega (arith, b .ticks-length))) in
+      rw (lt-leb requestsMax n room, set-pad requestsMax (r .submitted) request room, ticked, lt-ltb n requestsMax room, length-snoc (r .submitted) request, add-one n)
 
   -- a running leader prepares
-  led : (request : ℕ) → length (p .noted) < 64
+  led : (request : ℕ) → length (p .noted) < requestsMax
       → acting (layRoom (remember r request) known) me (leadOn (layReplica p) request me (layBook (r .counter)))
       ≡ layRoom (pick (isRunning (p .condition)) (issue (withReplica (remember r request) me (note p request)) me ag (Content.Prepare request)) (remember r request)) known
   unfolding leadOn remember withReplica issue
@@ -241,22 +241,22 @@ module _ (kit : Kit) (r : Room) (known : ℕ) (b : Bounds kit r) (me : ℕ) (bel
       (acted-laid r₁ known (issuedMore (r .counter) me ag content) me (note p request)))
       (λ e. rw (condition-laid p, e) (stays-laid r₁ known me below))
 
-  pub done-submit : (request : ℕ) (list : List ℕ) → me ≡ kit .leader → length (r .submitted) < 64 → Done (Submit request) list
+  pub done-submit : (request : ℕ) (list : List ℕ) → me ≡ kit .leader → length (r .submitted) < requestsMax → Done (Submit request) list
   unfolding doneOn enterOn applyOn carryOut layRoom layDesk afterSubmit
   done-submit request list is-leader room =
-      let fits : length (p .noted) < 64 = omega (arith, noted-submissions (b .replicas me)) in
+      let fits : length (p .noted) < requestsMax = omega (arith, noted-submissions (b .replicas me)) in
       ap (λ (parts : Parts). acting parts me (leadOn (layReplica p) request me (layBook (r .counter)))) (remembered request room)
       ∙ led request fits
       ∙ rw is-leader
 
-  filed-as : (decision : Decision) (h : Filing) (n : ℕ) → length (r .histories) < 8 → countedOn (layDesk r known) decision ≡ layDesk (withHistory r h n) known
+  filed-as : (decision : Decision) (h : Filing) (n : ℕ) → length (r .histories) < historiesMax → countedOn (layDesk r known) decision ≡ layDesk (withHistory r h n) known
       → entering (layRoom r known) decision
-      (entered (submissions (pad 64 (r .submitted)) (pad 64 (r .ticks))) (fileOn (length (r .histories)) (h .j) (h .k) (length (h .list)) (pad 64 (h .list)) (layHeads (r .histories)) (layLists (r .histories))))
+      (entered (submissions (pad requestsMax (r .submitted)) (pad requestsMax (r .ticks))) (fileOn (length (r .histories)) (h .j) (h .k) (length (h .list)) (pad requestsMax (h .list)) (layHeads (r .histories)) (layLists (r .histories))))
       ≡ layRoom (withHistory r h n) known
   unfolding layRoom fileOn withHistory
-  filed-as decision h n room counted = rw (counted, lt-leb 8 (length (r .histories)) room, store-head (r .histories) h, store-list (r .histories) h)
+  filed-as decision h n room counted = rw (counted, lt-leb historiesMax (length (r .histories)) room, store-head (r .histories) h, store-list (r .histories) h)
 
-  pub done-file : (j k : ℕ) (list : List ℕ) → length (r .histories) < 8 → r .filed < 8 → Done (File j k) list
+  pub done-file : (j k : ℕ) (list : List ℕ) → length (r .histories) < historiesMax → r .filed < historiesMax → Done (File j k) list
   unfolding doneOn enterOn applyOn carryOut afterFile layRoom withHistory layDesk countedOn
   done-file j k list room filed =
       let h : Filing = record { j = j; k = k; list = list } in
@@ -269,8 +269,8 @@ module _ (kit : Kit) (r : Room) (known : ℕ) (b : Bounds kit r) (me : ℕ) (bel
   abbrev filing : ℕ → ℕ → Filing
   filing j k = record { j = j; k = k; list = p .noted ++ missing (p .noted) (r .submitted) }
 
-  row-built : builtRow (layReplica p .noted) (layReplica p .count) (pad 64 (r .submitted)) (length (r .submitted))
-      ≡ row (pad 64 (p .noted ++ missing (p .noted) (r .submitted))) (length (p .noted ++ missing (p .noted) (r .submitted)))
+  row-built : builtRow (layReplica p .noted) (layReplica p .count) (pad requestsMax (r .submitted)) (length (r .submitted))
+      ≡ row (pad requestsMax (p .noted ++ missing (p .noted) (r .submitted))) (length (p .noted ++ missing (p .noted) (r .submitted)))
   unfolding layReplica
   row-built = built-laid (p .noted) (r .submitted) (omega (arith, built-fits (b .replicas me), b .submitted-max))
 
@@ -280,18 +280,18 @@ module _ (kit : Kit) (r : Room) (known : ℕ) (b : Bounds kit r) (me : ℕ) (bel
       let h = length (r .histories) in
       issuedMore (issuedMore (issuedMore (r .counter) me ag (Content.History h)) me up (Content.History h)) me sw (Content.Switch h)
 
-  announces : isFaulty (p .condition) ≡ false → length (r .histories) < 8
+  announces : isFaulty (p .condition) ≡ false → length (r .histories) < historiesMax
       → buildOn (layReplica p) (length (r .histories)) me (layBook (r .counter)) ≡ applied (layReplica (hold p (length (r .histories)))) (layBook announced)
   unfolding buildOn handOn
   announces correct room =
       let h = length (r .histories) in
       let g₁ = issuedMore (r .counter) me ag (Content.History h) in
       let g₂ = issuedMore g₁ me up (Content.History h) in
-      rw (lt-leb 8 h room, hold-laid p h, issue-laid (r .counter) me ag below (omega arith) (Content.History h) (own-room ag correct))
+      rw (lt-leb historiesMax h room, hold-laid p h, issue-laid (r .counter) me ag below (omega arith) (Content.History h) (own-room ag correct))
       (rw (issue-laid g₁ me up below (omega arith) (Content.History h) (own-room up correct))
       (rw (issue-laid g₂ me sw below (omega arith) (Content.Switch h) (own-room sw correct))))
 
-  pub done-build : (j k : ℕ) (list : List ℕ) → isFaulty (p .condition) ≡ false → length (r .histories) < 8 → Done (Build j k) list
+  pub done-build : (j k : ℕ) (list : List ℕ) → isFaulty (p .condition) ≡ false → length (r .histories) < historiesMax → Done (Build j k) list
   unfolding doneOn enterOn applyOn carryOut layRoom withHistory layDesk countedOn afterBuild builtList withReplica issue
   done-build j k list correct room =
       let h = filing j k in

@@ -6,7 +6,7 @@ use mathlib.Core.Option.{none}
 use Prim.Native.Nat.{ℕ, _<_}
 use native.Mathlib.Omega.{arith}
 use lib.ListN.{length}
-use Rattle.terms.specs.Limits.{replicas}
+use Rattle.terms.specs.Limits.{replicas, replicasMax, requestsMax}
 use Rattle.terms.specs.Padding.{pad}
 use Rattle.terms.specs.Kit.{Kit, GoodEvent}
 use Rattle.terms.specs.declared.Event.{Event}
@@ -14,7 +14,6 @@ use Rattle.terms.specs.declared.Act.{Act}
 use Rattle.terms.specs.declared.Act.the-variants as Act
 use Rattle.terms.specs.declared.Decision.{Decision}
 use Rattle.terms.specs.declared.Decision.the-variants as Decision
-use Rattle.rules.specs.Table.{switchLeader}
 use Rattle.rules.specs.Room.{Room}
 use Rattle.rules.specs.Decide.{concerned, decide, carryOut}
 use Rattle.rules.specs.laws.Tested.{Delivered, ToAct, Tested, tested}
@@ -27,8 +26,8 @@ use Rattle.carry_out.specs.DecisionLaws.{Done, done-refuse, done-idle, d
 use Rattle.carry_out.specs.DecisionLaws.{done-switch, done-hand, done-panic, done-submit, done-file, done-build}
 
 module _ (kit : Kit) (r : Room) (known : ℕ) (b : Bounds kit r) (list : List ℕ) (e : Event) (good : GoodEvent (replicas (kit .f)) e list)
-    (x : ℕ) (below : x < 7) where
-  sender-below : {sender name value : ℕ} → Delivered kit r e x sender name value → sender < 7
+    (x : ℕ) (below : x < replicasMax) where
+  sender-below : {sender name value : ℕ} → Delivered kit r e x sender name value → sender < replicasMax
   sender-below t = let g = subst (λ (event : Event). GoodEvent (replicas (kit .f)) event list) (t .event) good in omega (arith, g .0, b .good .f-high)
 
   done-act : (act : Act) → ToAct kit r e x act → Done kit r known b x below (Decision.Act act) list
@@ -60,7 +59,7 @@ module _ (kit : Kit) (r : Room) (known : ℕ) (b : Bounds kit r) (list : List �
 
 -- the law: what is done of a good event's decision, with the record of the replica concerned and the event's list
 pub done-laid : (kit : Kit) (r : Room) (known : ℕ) (event : Event) (list : List ℕ) → Bounds kit r → GoodEvent (replicas (kit .f)) event list
-    → doneOn (layRoles kit) (layTable kit) (layRoom r known) (layReplica (r .replica (concerned kit event))) (concerned kit event) (decide kit r event) (pad 64 list) (length list)
+    → doneOn (layRoles kit) (layTable kit) (layRoom r known) (layReplica (r .replica (concerned kit event))) (concerned kit event) (decide kit r event) (pad requestsMax list) (length list)
     ≡ layRoom (carryOut kit r (concerned kit event) (decide kit r event) list) known
 done-laid kit r known event list b good =
     done-decided kit r known b list event good (concerned kit event) (concerned-below kit event list (b .good) good) (decide kit r event) (tested kit r event)

@@ -3,6 +3,8 @@ use mathlib.Core.List.{List, [], _∷_}
 use Prim.Native.Nat.{ℕ, _+_}
 use lib.ListN.{set, take}
 use lib.Dec.{leb}
+use Rattle.terms.specs.Lent.{Heads, Lists}
+use Rattle.terms.specs.Limits.{requestsMax, historiesMax}
 use Rattle.terms.specs.Lists.{pick, holds}
 use Rattle.rules.specs.Switching.{missing}
 use Rattle.room.specs.declared.Desk.{Desk}
@@ -21,19 +23,19 @@ submissions requests ticks = record { requests = requests; ticks = ticks }
 
 unfoldable pub storeRequest : ℕ → ℕ → ℕ → List ℕ → List ℕ → Submissions
 storeRequest n request clock requests ticks =
-    pick (leb 64 n) (submissions requests ticks) (submissions (set requests n request) (set ticks n clock))
+    pick (leb requestsMax n) (submissions requests ticks) (submissions (set requests n request) (set ticks n clock))
 
 -- ---- histories
 
 pub record Filings : Type 0 where
-  pub heads : List (List ℕ)
-  pub lists : List (List ℕ)
+  pub heads : Heads
+  pub lists : Lists
 
-abbrev pub filings : List (List ℕ) → List (List ℕ) → Filings
+abbrev pub filings : Heads → Lists → Filings
 filings heads lists = record { heads = heads; lists = lists }
 
-unfoldable pub fileOn : ℕ → ℕ → ℕ → ℕ → List ℕ → List (List ℕ) → List (List ℕ) → Filings
-fileOn h j k n list heads lists = pick (leb 8 h) (filings heads lists) (filings (set heads h (j ∷ k ∷ n ∷ [])) (set lists h list))
+unfoldable pub fileOn : ℕ → ℕ → ℕ → ℕ → List ℕ → Heads → Lists → Filings
+fileOn h j k n list heads lists = pick (leb historiesMax h) (filings heads lists) (filings (set heads h (j ∷ k ∷ n ∷ [])) (set lists h list))
 
 -- a row with as many requests as it has
 pub record Row : Type 0 where
@@ -46,11 +48,11 @@ row list count = record { list = list; count = count }
 -- requests go to the end of a row, as far as there is room
 abbrev pub storeAll : Row → List ℕ → Row
 storeAll r [] = r
-storeAll r (q ∷ qs) = pick (leb 64 (r .count)) r (storeAll (row (set (r .list) (r .count) q) (r .count + 1)) qs)
+storeAll r (q ∷ qs) = pick (leb requestsMax (r .count)) r (storeAll (row (set (r .list) (r .count) q) (r .count + 1)) qs)
 
 -- a request goes to the end of a row if it is not noted
 unfoldable pub addMissing : List ℕ → ℕ → Row → Row
-addMissing noted request r = pick (holds request noted) r (pick (leb 64 (r .count)) r (row (set (r .list) (r .count) request) (r .count + 1)))
+addMissing noted request r = pick (holds request noted) r (pick (leb requestsMax (r .count)) r (row (set (r .list) (r .count) request) (r .count + 1)))
 
 -- the noted requests and then the submitted ones not noted
 unfoldable pub builtRow : List ℕ → ℕ → List ℕ → ℕ → Row
@@ -61,8 +63,8 @@ builtRow noted count requests submitted = storeAll (row noted count) (missing (t
 pub record Entered : Type 0 where
   pub requests : List ℕ
   pub ticks : List ℕ
-  pub heads : List (List ℕ)
-  pub lists : List (List ℕ)
+  pub heads : Heads
+  pub lists : Lists
 
 abbrev pub entered : Submissions → Filings → Entered
 entered s f = record { requests = s .requests; ticks = s .ticks; heads = f .heads; lists = f .lists }

@@ -5,12 +5,12 @@ use mathlib.Core.List.{List, [], _∷_}
 use Prim.Native.Nat.{ℕ, suc, _+_, _≤_, _<_}
 use native.Mathlib.Omega.{arith}
 use lib.ListN.{length}
-use Rattle.terms.specs.Limits.{placesMax}
+use Rattle.terms.specs.Limits.{replicasMax, up, placesMax}
 use Rattle.terms.specs.Lists.{nth, allOf, anyBelow}
 use Rattle.terms.specs.ListLaws.{split, not-true-false, nth-lt, holds-nth, allOf-at, anyBelow-past}
 use Rattle.terms.specs.Kit.{Kit, marksActive}
 use Rattle.terms.specs.declared.Content.{Content}
-use Rattle.rules.specs.Table.{up, activesFrom, actives}
+use Rattle.rules.specs.Table.{activesFrom, actives}
 use Rattle.rules.specs.laws.TableLaws.{Roles, roles}
 use Rattle.rules.specs.Room.{Room}
 use Rattle.rules.specs.Reading.{answeredAt, answered}
@@ -23,7 +23,7 @@ use Rattle.room.specs.Bounds.{Bounds}
 use Rattle.clock.specs.AnsweredOn.{upValue, hasUpdated, updatedBy, answeredAtOn, answeredOn}
 
 -- an up value is what the room has there
-up-laid : (counter : ℕ → ℕ → List Content) (y i : ℕ) → y < 7 → length (counter y up) ≤ placesMax → upValue (layLedger counter) (layIssued counter) (suc i) y ≡ nth (counter y up) i
+up-laid : (counter : ℕ → ℕ → List Content) (y i : ℕ) → y < replicasMax → length (counter y up) ≤ placesMax → upValue (layLedger counter) (layIssued counter) (suc i) y ≡ nth (counter y up) i
 up-laid counter y i small few = content-laid counter y up small (omega arith) (suc i) few
 
 -- only what is said of the table's replicas counts
@@ -43,10 +43,10 @@ unanswered-past kit role r request i past =
     absurd (omega (arith, nth-lt (r .counter (kit .leader) up) i (isContent-same (nth (r .counter (kit .leader) up) i) _ own))))
 
 module _ (kit : Kit) (r : Room) (b : Bounds kit r) where
-  pub table-small : length (kit .table) ≤ 7
+  pub table-small : length (kit .table) ≤ replicasMax
   table-small = let f = b .good .f-high in omega (arith, b .good .table-length)
 
-  pub leader-small : kit .leader < 7
+  pub leader-small : kit .leader < replicasMax
   leader-small = let f = b .good .f-high in omega (arith, b .good .leader-below)
 
   at-laid : (request i : ℕ) → answeredAtOn (layTable kit) (kit .leader) request (layLedger (r .counter)) (layIssued (r .counter)) i ≡ answeredAt kit r request (suc i)

@@ -2,12 +2,12 @@
 use mathlib.Core.Bool.{Bool}
 use mathlib.Core.Option.{Option}
 use Prim.Native.Nat.{ℕ, suc}
-use Rattle.terms.specs.Limits.{placesMax}
+use Rattle.terms.specs.Limits.{up, placesMax}
 use Rattle.terms.specs.Lent.{Table}
 use Rattle.terms.specs.Lists.{allOf, anyBelow}
 use Rattle.terms.specs.declared.Content.{Content}
 use Rattle.terms.specs.declared.Content.the-variants.{Update}
-use Rattle.rules.specs.Table.{up, activesFrom}
+use Rattle.rules.specs.Table.{activesFrom}
 use Rattle.rules.specs.Reading.{isContent, secondOf}
 use Rattle.ledger.specs.Ledger.{Ledger, Issued, contentOn}
 

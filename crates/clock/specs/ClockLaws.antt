@@ -2,7 +2,7 @@
 -- of a kit, it gives the rules' next room laid out, and what it then takes for known is known there. Assumes nothing.
 use mathlib.Core.Path.{_≡_, sym}
 use Prim.Native.Nat.{ℕ, _≤_}
-use Rattle.terms.specs.Limits.{ticksMax}
+use Rattle.terms.specs.Limits.{requestsMax, ticksMax}
 use Rattle.terms.specs.Lists.{pick, isSome}
 use Rattle.terms.specs.ListLaws.{split}
 use Rattle.terms.specs.Kit.{Kit}
@@ -33,7 +33,7 @@ module _ (kit : Kit) (r : Room) (known gap : ℕ) (b : Bounds kit r) (k : Known 
 
   -- the desk
   pub desk-laid
-      : tickOn (layDesk r known) gap (layRoles kit) (layTable kit) (pad 64 (r .submitted)) (pad 64 (r .ticks)) (layLedger (r .counter)) (layIssued (r .counter))
+      : tickOn (layDesk r known) gap (layRoles kit) (layTable kit) (pad requestsMax (r .submitted)) (pad requestsMax (r .ticks)) (layLedger (r .counter)) (layIssued (r .counter))
       ≡ layDesk (tick kit r gap) (knownAfter kit r known gap)
   unfolding tickOn stopsAt firstOpen layDesk layRoles tick withClock withLate
   desk-laid =
@@ -48,8 +48,8 @@ module _ (kit : Kit) (r : Room) (known gap : ℕ) (b : Bounds kit r) (k : Known 
       let t = tick-ticked kit r gap in
       λ j. record {
         desk = sym desk-laid j;
-        requests = pad 64 (t .submitted j);
-        ticks = pad 64 (t .ticks j);
+        requests = pad requestsMax (t .submitted j);
+        ticks = pad requestsMax (t .ticks j);
         heads = layHeads (t .histories j);
         lists = layLists (t .histories j);
         ledger = layLedger (t .counter j);

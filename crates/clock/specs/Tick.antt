@@ -5,9 +5,10 @@ use mathlib.Core.List.{List}
 use Prim.Native.Nat.{ℕ, zero, suc, _+_, _-_, _%_, _^_}
 use lib.ListN.{getD}
 use lib.Dec.{leb, ltb}
+use Rattle.terms.specs.Lent.{Table, Requests, Ticks}
 use Rattle.terms.specs.Limits.{requestsMax}
 use Rattle.terms.specs.Lists.{pick}
-use Rattle.ledger.specs.Ledger.{Places}
+use Rattle.ledger.specs.Ledger.{Ledger, Issued}
 use Rattle.room.specs.declared.Desk.{Desk}
 use Rattle.room.specs.declared.Roles.{Roles}
 use Rattle.clock.specs.AnsweredOn.{answeredOn}
@@ -21,7 +22,7 @@ unfoldable pub isDue : ℕ → ℕ → ℕ → Bool
 isDue tick patience clock = leb (dueAt tick patience) clock
 
 -- submission i is due and answered
-unfoldable pub passed : ℕ → Roles → List ℕ → List ℕ → List ℕ → List Places → List ℕ → ℕ → Bool
+unfoldable pub passed : ℕ → Roles → Table → Requests → Ticks → Ledger → Issued → ℕ → Bool
 passed clock roles table requests ticks ledger issued i =
     ltb i requestsMax && (isDue (getD ticks i 0) (roles .patience) clock && answeredOn table (roles .leader) (getD requests i 0) ledger issued)
 
@@ -31,7 +32,7 @@ firstFrom t i zero = i
 firstFrom t i (suc n) = pick (t i) (firstFrom t (i + 1) n) i
 
 -- the first of the submissions not known to be answered that is not both due and answered
-unfoldable pub firstOpen : ℕ → ℕ → ℕ → Roles → List ℕ → List ℕ → List ℕ → List Places → List ℕ → ℕ
+unfoldable pub firstOpen : ℕ → ℕ → ℕ → Roles → Table → Requests → Ticks → Ledger → Issued → ℕ
 firstOpen known submitted clock roles table requests ticks ledger issued =
     firstFrom (passed clock roles table requests ticks ledger issued) known (submitted - known)
 
@@ -47,7 +48,7 @@ stopsAt d clock patience ticks k =
     (deskAt d clock (d .late) (d .due) k)
 
 -- lateness happens once
-unfoldable pub tickOn : Desk → ℕ → Roles → List ℕ → List ℕ → List ℕ → List Places → List ℕ → Desk
+unfoldable pub tickOn : Desk → ℕ → Roles → Table → Requests → Ticks → Ledger → Issued → Desk
 tickOn d gap roles table requests ticks ledger issued =
     let clock = (d .clock + gap) % 2 ^ 64 in
     pick (d .late) (deskAt d clock (d .late) (d .due) (d .known))

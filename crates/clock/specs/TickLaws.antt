@@ -62,13 +62,13 @@ due-wait u patience clock past small =
     (λ h. rw (le-leb (u + patience) clock (omega arith), le-leb patience (clock - u) (omega arith))))
 
 -- an element of a list that is laid out
-laid-at : (l : List ℕ) (i a : ℕ) → nth l i ≡ some a → getD (pad 64 l) i 0 ≡ a
-laid-at l i a e = let here = sym (nth-getD l i 0 (nth-lt l i e)) ∙ e in getD-pad 64 l i ∙ cc (here)
+laid-at : (l : List ℕ) (i a : ℕ) → nth l i ≡ some a → getD (pad requestsMax l) i 0 ≡ a
+laid-at l i a e = let here = sym (nth-getD l i 0 (nth-lt l i e)) ∙ e in getD-pad requestsMax l i ∙ cc (here)
 
 module _ (kit : Kit) (r : Room) (known gap : ℕ) where
   -- submission i is due and answered, as the code tests it
   abbrev testOf : ℕ → Bool
-  testOf = passed (r .clock + gap) (layRoles kit) (layTable kit) (pad 64 (r .submitted)) (pad 64 (r .ticks)) (layLedger (r .counter)) (layIssued (r .counter))
+  testOf = passed (r .clock + gap) (layRoles kit) (layTable kit) (pad requestsMax (r .submitted)) (pad requestsMax (r .ticks)) (layLedger (r .counter)) (layIssued (r .counter))
 
   -- where the search stops
   abbrev pub stopOf : ℕ
@@ -76,7 +76,7 @@ module _ (kit : Kit) (r : Room) (known gap : ℕ) where
 
   -- whether the submission there is overdue, as the code tests it
   abbrev pub isOverdue : Bool
-  isOverdue = ltb stopOf (length (r .submitted)) && (ltb stopOf requestsMax && isDue (getD (pad 64 (r .ticks)) stopOf 0) (kit .patience) (r .clock + gap))
+  isOverdue = ltb stopOf (length (r .submitted)) && (ltb stopOf requestsMax && isDue (getD (pad requestsMax (r .ticks)) stopOf 0) (kit .patience) (r .clock + gap))
 
 module _ (kit : Kit) (r : Room) (known gap : ℕ) (b : Bounds kit r) (k : Known kit r known) (small : gap ≤ ticksMax) where
   abbrev clock : ℕ
@@ -137,7 +137,7 @@ module _ (kit : Kit) (r : Room) (known gap : ℕ) (b : Bounds kit r) (k : Known 
 
   -- the late tick of the rules is that of the submission at which the search stops
   pub overdue-found
-      : overdue kit later (r .submitted) (r .ticks) ≡ pick (isOverdue kit r known gap) (some (dueAt (getD (pad 64 (r .ticks)) stop 0) (kit .patience))) none
+      : overdue kit later (r .submitted) (r .ticks) ≡ pick (isOverdue kit r known gap) (some (dueAt (getD (pad requestsMax (r .ticks)) stop 0) (kit .patience))) none
   unfolding withClock dueAt
   overdue-found =
       by-cases (decLt stop (length (r .submitted)))

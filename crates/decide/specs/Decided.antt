@@ -6,19 +6,20 @@ use mathlib.Core.List.{List}
 use Prim.Native.Nat.{ℕ}
 use lib.ListN.{take}
 use lib.Dec.{leb}
+use Rattle.terms.specs.Lent.{Table, Requests, Marks, Accepted, Heads, Lists}
+use Rattle.terms.specs.Limits.{replicasMax, ag, up}
 use Rattle.terms.specs.Lists.{pick, holds}
 use Rattle.terms.specs.declared.Event.{Event}
 use Rattle.terms.specs.declared.Event.the-variants as Event
 use Rattle.terms.specs.declared.Decision.{Decision}
 use Rattle.terms.specs.declared.Decision.the-variants.{Idle}
-use Rattle.rules.specs.Table.{ag, up}
 use Rattle.rules.specs.Reading.{entryAt}
 use Rattle.rules.specs.Sight.{Sight}
 use Rattle.rules.specs.Submit.{decideSubmit, decideIssue, decideFile}
 use Rattle.rules.specs.Deliver.{decideDeliver}
 use Rattle.rules.specs.Switching.{Handing, decidePanic, decideBuild, decideHand}
 use Rattle.rules.specs.Decide.{concernedBy}
-use Rattle.ledger.specs.Ledger.{Places, totalOf, contentOn}
+use Rattle.ledger.specs.Ledger.{Ledger, Issued, totalOf, contentOn}
 use Rattle.replica.specs.Record.{acceptedIn, activeIn, settledIn}
 use Rattle.room.specs.declared.Desk.{Desk}
 use Rattle.room.specs.declared.Roles.{Roles}
@@ -29,7 +30,7 @@ use Rattle.validity.specs.Validity.{isValidOn}
 
 -- one of the seven records; 0 where there is none of that number
 unfoldable pub belowSeven : ℕ → ℕ
-belowSeven n = pick (leb 7 n) 0 n
+belowSeven n = pick (leb replicasMax n) 0 n
 
 unfoldable pub concernedIn : Event → Roles → ℕ
 concernedIn event roles = belowSeven (concernedBy (roles .leader) (roles .switcher) event)
@@ -37,7 +38,7 @@ concernedIn event roles = belowSeven (concernedBy (roles .leader) (roles .switch
 -- ---- what the rules ask, answered by the parts
 
 -- a request that is submitted and that the receiver has not noted yet
-abbrev pub isNewIn : List ℕ → ℕ → List ℕ → ℕ → ℕ → Bool
+abbrev pub isNewIn : Requests → ℕ → Requests → ℕ → ℕ → Bool
 isNewIn requests submitted noted count request = holds request (take submitted requests) && not (holds request (take count noted))
 
 -- the number of the history that is held, if one is
@@ -45,7 +46,7 @@ abbrev pub heldIn : Bool → ℕ → Option ℕ
 heldIn holding held = pick holding (some held) none
 
 -- `s`, `noted` and `marks` are of the replica concerned
-abbrev pub sightIn : Standing → ℕ → List ℕ → List ℕ → List ℕ → ℕ → Sight
+abbrev pub sightIn : Standing → ℕ → Requests → Marks → Requests → ℕ → Sight
 sightIn s leader noted marks requests submitted =
     record {
       leader = leader;
@@ -59,11 +60,11 @@ sightIn s leader noted marks requests submitted =
     }
 
 -- which histories are valid at ag value p and up value q
-abbrev pub validIn : Roles → Desk → List ℕ → List ℕ → List (List ℕ) → List (List ℕ) → List Places → List ℕ → ℕ → ℕ → ℕ → Bool
+abbrev pub validIn : Roles → Desk → Table → Requests → Heads → Lists → Ledger → Issued → ℕ → ℕ → ℕ → Bool
 validIn roles desk table requests heads lists ledger issued p q h =
     isValidOn ledger issued table (roles .leader) (roles .switcher) (take (desk .submitted) requests) heads lists (desk .histories) h p q
 
-abbrev pub handingIn : Roles → Desk → List ℕ → List ℕ → List (List ℕ) → List (List ℕ) → List Places → List ℕ → ℕ → ℕ → ℕ → Handing
+abbrev pub handingIn : Roles → Desk → Table → Requests → Heads → Lists → Ledger → Issued → ℕ → ℕ → ℕ → Handing
 handingIn roles desk table requests heads lists ledger issued p q to =
     record {
       switcher = roles .switcher;
@@ -75,7 +76,7 @@ handingIn roles desk table requests heads lists ledger issued p q to =
 
 -- ---- the event
 
-unfoldable pub decideOn : Event → Standing → Desk → Roles → List ℕ → List ℕ → List ℕ → List ℕ → List ℕ → List (List ℕ) → List (List ℕ) → List Places → List ℕ → Decision
+unfoldable pub decideOn : Event → Standing → Desk → Roles → Requests → Marks → Accepted → Table → Requests → Heads → Lists → Ledger → Issued → Decision
 decideOn (Event.Submit request) s desk roles noted marks accepted table requests heads lists ledger issued =
     decideSubmit (λ q. holds q (take (desk .submitted) requests)) (desk .submitted) request
 decideOn (Event.Issue replica name content) s desk roles noted marks accepted table requests heads lists ledger issued =

@@ -7,7 +7,7 @@ use Prim.Native.Nat.{ℕ, _-_, _<_}
 use native.Mathlib.Omega.{arith}
 use lib.ListN.{length}
 use borrow.Author.Tests.{lt-leb}
-use Rattle.terms.specs.Limits.{replicas}
+use Rattle.terms.specs.Limits.{replicas, replicasMax, ag, up, names, requestsMax}
 use Rattle.terms.specs.Lists.{isSome}
 use Rattle.terms.specs.Padding.{pad, take-pad, getD-pad}
 use Rattle.terms.specs.Kit.{Kit, GoodKit, GoodEvent}
@@ -15,7 +15,7 @@ use Rattle.terms.specs.declared.Content.{Content}
 use Rattle.terms.specs.declared.Event.{Event}
 use Rattle.terms.specs.declared.Event.the-variants as Event
 use Rattle.terms.specs.declared.Decision.{Decision}
-use Rattle.rules.specs.Table.{ag, up, isActive, switchLeader}
+use Rattle.rules.specs.Table.{isActive, switchLeader}
 use Rattle.rules.specs.Room.{Room}
 use Rattle.rules.specs.Reading.{entryAt, agTotal}
 use Rattle.rules.specs.Sight.{sightOf}
@@ -47,9 +47,9 @@ decidedOn roles table parts p event =
 
 -- ---- who is concerned
 
-below-is : (n : ℕ) → n < 7 → belowSeven n ≡ n
+below-is : (n : ℕ) → n < replicasMax → belowSeven n ≡ n
 unfolding belowSeven
-below-is n h = rw (lt-leb 7 n h)
+below-is n h = rw (lt-leb replicasMax n h)
 
 pub concerned-laid : (kit : Kit) (event : Event) (list : List ℕ) → GoodKit kit → GoodEvent (replicas (kit .f)) event list → concernedIn event (layRoles kit) ≡ concerned kit event
 unfolding concernedIn layRoles concerned
@@ -67,14 +67,14 @@ is-held false held = refl
 
 -- and they answer the same
 sight-laid : (kit : Kit) (r : Room) (x : ℕ)
-    → (let p = layReplica (r .replica x) in sightIn (standingOf p) (kit .leader) (p .noted) (p .marks) (pad 64 (r .submitted)) (length (r .submitted)))
+    → (let p = layReplica (r .replica x) in sightIn (standingOf p) (kit .leader) (p .noted) (p .marks) (pad requestsMax (r .submitted)) (length (r .submitted)))
     ≡ sightOf kit r x
 unfolding layReplica
 sight-laid kit r x =
     let p = r .replica x in
-    let noted : entryAt (pad 64 (p .noted)) ≡ entryAt (p .noted) = fun-ext (λ i. getD-pad 64 (p .noted) (i - 1)) in
-    let marks : entryAt (pad 64 (p .pairMarks)) ≡ entryAt (p .pairMarks) = fun-ext (λ i. getD-pad 64 (p .pairMarks) (i - 1)) in
-    rw (noted, marks, take-pad 64 (r .submitted), take-pad 64 (p .noted), held-laid (p .held))
+    let noted : entryAt (pad requestsMax (p .noted)) ≡ entryAt (p .noted) = fun-ext (λ i. getD-pad requestsMax (p .noted) (i - 1)) in
+    let marks : entryAt (pad requestsMax (p .pairMarks)) ≡ entryAt (p .pairMarks) = fun-ext (λ i. getD-pad requestsMax (p .pairMarks) (i - 1)) in
+    rw (noted, marks, take-pad requestsMax (r .submitted), take-pad requestsMax (p .noted), held-laid (p .held))
 
 actives-in : (kit : Kit) → activeIn (layTable kit) ≡ isActive kit
 unfolding layTable
@@ -89,9 +89,9 @@ module _ (kit : Kit) (r : Room) (b : Bounds kit r) (known : ℕ) where
 
   submit-laid : (x request : ℕ) → decided x (Event.Submit request) ≡ decide kit r (Event.Submit request)
   unfolding decidedOn decideOn layRoom layDesk decide
-  submit-laid x request = rw (take-pad 64 (r .submitted))
+  submit-laid x request = rw (take-pad requestsMax (r .submitted))
 
-  issue-laid : (x name : ℕ) (content : Content) → x < 7 → name < 3 → decided x (Event.Issue x name content) ≡ decide kit r (Event.Issue x name content)
+  issue-laid : (x name : ℕ) (content : Content) → x < replicasMax → name < names → decided x (Event.Issue x name content) ≡ decide kit r (Event.Issue x name content)
   unfolding decidedOn decideOn layRoom layDesk layReplica decide
   issue-laid x name content hx hn = rw (total-laid (r .counter) x name hx hn)
 
@@ -107,7 +107,7 @@ module _ (kit : Kit) (r : Room) (b : Bounds kit r) (known : ℕ) where
   unfolding decidedOn decideOn layRoom layDesk decide
   file-laid x j k = refl
 
-  deliver-laid : (sender name value to : ℕ) → sender < 7 → name < 3
+  deliver-laid : (sender name value to : ℕ) → sender < replicasMax → name < names
       → decided to (Event.Deliver sender name value to) ≡ decide kit r (Event.Deliver sender name value to)
   unfolding decidedOn decideOn layRoom layDesk layRoles decide
   deliver-laid sender name value to hs hn =
@@ -119,7 +119,7 @@ module _ (kit : Kit) (r : Room) (b : Bounds kit r) (known : ℕ) where
       let s = switchLeader kit in
       let first = content-laid kit r b s ag p (switcher-seven kit r b) (omega arith) in
       let second = content-laid kit r b s up q (switcher-seven kit r b) (omega arith) in
-      rw (first, second, take-pad 64 (r .submitted), fun-ext (λ h. valid-laid kit r b h p q), held-laid (r .replica to .held))
+      rw (first, second, take-pad requestsMax (r .submitted), fun-ext (λ h. valid-laid kit r b h p q), held-laid (r .replica to .held))
 
   build-laid : decided (switchLeader kit) Event.Build ≡ decide kit r Event.Build
   unfolding decidedOn decideOn layRoom layRoles layTable layReplica decide built

@@ -8,6 +8,7 @@ use native.Mathlib.Omega.{arith}
 use lib.ListN.{length, take, getD}
 use lib.Dec.{eqb}
 use borrow.Author.Tests.{le-leb, lt-leb, le-ltb}
+use Rattle.terms.specs.Limits.{replicasMax, ag, up, names, requestsMax, historiesMax}
 use Rattle.terms.specs.Lists.{nth, holds, distinct, allOf, allBelow}
 use Rattle.terms.specs.ListLaws.{split, nth-lt, no-way}
 use Rattle.terms.specs.Mark.{markOf}
@@ -16,7 +17,7 @@ use Rattle.terms.specs.Kit.{Kit, marksActive}
 use Rattle.terms.specs.declared.Content.{Content}
 use Rattle.terms.specs.declared.Content.the-variants as Content
 use Rattle.terms.specs.declared.Event.the-variants as Event
-use Rattle.rules.specs.Table.{ag, up, activesFrom, actives, switchLeader}
+use Rattle.rules.specs.Table.{activesFrom, actives, switchLeader}
 use Rattle.rules.specs.Room.{Room, Filing}
 use Rattle.rules.specs.Reading.{contentAt, isContent}
 use Rattle.rules.specs.Switching.{isCommitted, isSettledBy, isValid, isValidFiling}
@@ -57,31 +58,31 @@ past-end (x ∷ l) zero e = no-way (cc)
 past-end (x ∷ l) (suc i) e = omega (arith, past-end l i e)
 
 module _ (kit : Kit) (r : Room) (b : Bounds kit r) where
-  pub content-laid : (x name value : ℕ) → x < 7 → name < 3 → contentOn (layLedger (r .counter)) (layIssued (r .counter)) x name value ≡ contentAt (r .counter x name) value
+  pub content-laid : (x name value : ℕ) → x < replicasMax → name < names → contentOn (layLedger (r .counter)) (layIssued (r .counter)) x name value ≡ contentAt (r .counter x name) value
   content-laid x name value hx hn = Ledger.content-laid (r .counter) x name hx hn value (b .counter-max x name)
 
-  pub leader-seven : kit .leader < 7
+  pub leader-seven : kit .leader < replicasMax
   leader-seven = omega (arith, b .good .leader-below, b .good .f-high)
 
-  pub switcher-seven : switchLeader kit < 7
+  pub switcher-seven : switchLeader kit < replicasMax
   unfolding concerned
   switcher-seven = concerned-below kit Event.Build [] (b .good) refl
 
-  pub table-seven : length (kit .table) ≤ 7
+  pub table-seven : length (kit .table) ≤ replicasMax
   table-seven = omega (arith, b .good .table-length, b .good .f-high)
 
   -- ---- one history
 
   module _ (list : List ℕ) where
-    committed-laid : (i : ℕ) → isCommittedOn (layLedger (r .counter)) (layIssued (r .counter)) (kit .leader) (switchLeader kit) (pad 64 list) i ≡ isCommitted kit r list (suc i)
+    committed-laid : (i : ℕ) → isCommittedOn (layLedger (r .counter)) (layIssued (r .counter)) (kit .leader) (switchLeader kit) (pad requestsMax list) i ≡ isCommitted kit r list (suc i)
     unfolding isCommittedOn isCommittedAt isCommitted
     committed-laid i =
-        rw (getD-pad 64 list i, entryAt-suc list i, content-laid (switchLeader kit) ag (suc i) switcher-seven (omega arith), content-laid (kit .leader) ag (suc i) leader-seven (omega arith))
+        rw (getD-pad requestsMax list i, entryAt-suc list i, content-laid (switchLeader kit) ag (suc i) switcher-seven (omega arith), content-laid (kit .leader) ag (suc i) leader-seven (omega arith))
 
-    settled-laid : (i : ℕ) → i < length list → isSettledOn (layLedger (r .counter)) (layIssued (r .counter)) (layTable kit) (kit .leader) (switchLeader kit) (pad 64 list) i ≡ isSettledBy kit r list (suc i)
+    settled-laid : (i : ℕ) → i < length list → isSettledOn (layLedger (r .counter)) (layIssued (r .counter)) (layTable kit) (kit .leader) (switchLeader kit) (pad requestsMax list) i ≡ isSettledBy kit r list (suc i)
     unfolding isSettledOn isSettledAt isSettledBy isCommonTo actives layTable
     settled-laid i h =
-        rw (getD-pad 64 list i, entryAt-suc list i, take-pad-le 64 (suc i) list h, content-laid (switchLeader kit) up (suc i) switcher-seven (omega arith), actives-laid (kit .table))
+        rw (getD-pad requestsMax list i, entryAt-suc list i, take-pad-le requestsMax (suc i) list h, content-laid (switchLeader kit) up (suc i) switcher-seven (omega arith), actives-laid (kit .table))
         (ap (λ (t : Bool). t && isContent (nth (r .counter (switchLeader kit) up) i) (Content.Update (getD list i 0) (markOf (take (suc i) list))))
         (actives-ext (kit .table) 0 _ _ (λ y below. rw (content-laid y ag (suc i) (omega (arith, table-seven)) (omega arith)))))
 
@@ -93,18 +94,18 @@ module _ (kit : Kit) (r : Room) (b : Bounds kit r) where
       && (allOf (filing .list) (λ request. holds request (r .submitted)) && distinct (filing .list)))
 
   borne-out-laid : (filing : Filing) → FilingBounds filing
-      → isBorneOut (layLedger (r .counter)) (layIssued (r .counter)) (layTable kit) (kit .leader) (switchLeader kit) (r .submitted) (pad 64 (filing .list)) (length (filing .list)) (filing .k) (filing .j)
+      → isBorneOut (layLedger (r .counter)) (layIssued (r .counter)) (layTable kit) (kit .leader) (switchLeader kit) (r .submitted) (pad requestsMax (filing .list)) (length (filing .list)) (filing .k) (filing .j)
       ≡ isBorne filing
   unfolding isBorneOut isListed isBorne
   borne-out-laid filing f =
       let n = length (filing .list) in
-      let long : n ≤ length (pad 64 (filing .list)) = omega (arith, length-pad 64 (filing .list) (f .list-max), f .list-max) in
+      let long : n ≤ length (pad requestsMax (filing .list)) = omega (arith, length-pad requestsMax (filing .list) (f .list-max), f .list-max) in
       let committed = allBelow-ext (filing .k) _ _ (λ i h. committed-laid (filing .list) i) in
       let settled = allBelow-ext (filing .j) _ _ (λ i h. settled-laid (filing .list) i (omega (arith, f .j-k, f .k-list))) in
-      rw (le-ltb 64 n (f .list-max), le-ltb (length (pad 64 (filing .list))) n long, le-ltb n (filing .k) (f .k-list), le-ltb (filing .k) (filing .j) (f .j-k))
-      (rw (committed, settled, take-pad 64 (filing .list)))
+      rw (le-ltb requestsMax n (f .list-max), le-ltb (length (pad requestsMax (filing .list))) n long, le-ltb n (filing .k) (f .k-list), le-ltb (filing .k) (filing .j) (f .j-k))
+      (rw (committed, settled, take-pad requestsMax (filing .list)))
 
-  few-histories : length (r .histories) ≤ 8
+  few-histories : length (r .histories) ≤ historiesMax
   few-histories = omega (arith, b .histories-filed, b .filed-max)
 
   filed-laid : (h p q : ℕ) (filing : Filing) → nth (r .histories) h ≡ some filing
@@ -113,8 +114,8 @@ module _ (kit : Kit) (r : Room) (b : Bounds kit r) where
   unfolding isFiledAt
   filed-laid h p q filing e =
       let below : h < length (r .histories) = nth-lt (r .histories) h e in
-      let eight : h < 8 = omega (arith, few-histories) in
-      rw (lt-leb (length (r .histories)) h below, lt-leb 8 h eight, head-laid (r .histories) h eight, list-laid (r .histories) h eight, e)
+      let eight : h < historiesMax = omega (arith, few-histories) in
+      rw (lt-leb (length (r .histories)) h below, lt-leb historiesMax h eight, head-laid (r .histories) h eight, list-laid (r .histories) h eight, e)
       (rw (borne-out-laid filing (b .filings h filing e)))
 
   unfiled-laid : (h p q : ℕ) → nth (r .histories) h ≡ none

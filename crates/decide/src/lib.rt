@@ -1,5 +1,6 @@
 // What an event comes to: the answers in their order, and what is to be done where the event is taken. Everything is read, nothing changed.
 ghost use mathlib.Core.Path.{_≡_};
+ghost use Rattle.terms.specs.Limits.{ag, sw};
 ghost use Rattle.terms.specs.Numbers.{answerNumber};
 ghost use mathlib.Core.Option.{some};
 ghost use Prim.Native.Nat.{_-_};
@@ -7,7 +8,6 @@ ghost use mathlib.Core.Bool.{not, _&&_};
 ghost use lib.Dec.{leb, eqb};
 ghost use lib.ListN.{getD, take};
 ghost use Rattle.terms.specs.Lists.{holds, isSome};
-ghost use Rattle.rules.specs.Table.{ag, sw};
 ghost use Rattle.rules.specs.Reading.{isRunning, isClosed, isFaulty, entryAt};
 ghost use Rattle.rules.specs.Outcome.{answerOf};
 ghost use Rattle.rules.specs.Submit.{decideSubmit, namesUnfiled, decideIssue, decideFile};

@@ -8,6 +8,7 @@ use native.Mathlib.Nat.{zero-add}
 use native.Mathlib.Decide.{decLt}
 use borrow.Author.Tests.{le-leb, lt-leb}
 use lib.ListN.{length, getD, drop, replicate}
+use Rattle.terms.specs.Limits.{replicasMax, requestsMax}
 use Rattle.terms.specs.Lists.{pick}
 use Rattle.terms.specs.Numbers.{kindOf, contentOf}
 use Rattle.terms.specs.declared.ContentChoice.{ContentChoice}
@@ -48,13 +49,13 @@ pad-at (x ∷ l) n (suc i) = pad-at l n i
 
 -- ---- the settings
 
-pub size-most : (f : ℕ) → sizeOf f ≤ 7
+pub size-most : (f : ℕ) → sizeOf f ≤ replicasMax
 size-most f =
     by-cases (decLt 3 f) (λ big. rw (lt-leb f 3 big) (omega arith)) (λ small. rw (le-leb f 3 (omega arith)) (omega arith))
 
 pub opened : (bytes : List ℕ) (f leader patience count : Taken) (size at : ℕ) (table : List ℕ)
     → f ≡ takeAt bytes 0 → leader ≡ takeAt bytes (f .next) → patience ≡ takeAt bytes (leader .next) → size ≡ sizeOf (f .value)
-    → Stretched (stretchAt size bytes (patience .next)) (replicate 7 0) table at → count ≡ takeAt bytes at
+    → Stretched (stretchAt size bytes (patience .next)) (replicate replicasMax 0) table at → count ≡ takeAt bytes at
     → _≡_ {A = Settings}
     (record { f = f .value; size = size; leader = leader .value; patience = patience .value; table = table; count = count .value; first = count .next })
     (settingsIn bytes)
@@ -74,7 +75,7 @@ operands-few Kind.Idle = omega arith
 operands-few Kind.Build = omega arith
 operands-few Kind.File = omega arith
 
-pub filed-few : (kind : Kind) (k e : ℕ) → filedBy kind k e ≤ 64
+pub filed-few : (kind : Kind) (k e : ℕ) → filedBy kind k e ≤ requestsMax
 unfolding filedOf
 filed-few Kind.Submit k e = omega arith
 filed-few Kind.Issue k e = omega arith
@@ -84,11 +85,11 @@ filed-few Kind.Panic k e = omega arith
 filed-few Kind.Idle k e = omega arith
 filed-few Kind.Build k e = omega arith
 filed-few Kind.File k e =
-    by-cases (decLt 64 (k + e)) (λ big. rw (lt-leb (k + e) 64 big) (omega arith)) (λ small. rw (le-leb (k + e) 64 (omega arith)) (omega arith))
+    by-cases (decLt requestsMax (k + e)) (λ big. rw (lt-leb (k + e) requestsMax big) (omega arith)) (λ small. rw (le-leb (k + e) requestsMax (omega arith)) (omega arith))
 
-pub requests-file : (bytes : List ℕ) (at count : ℕ) (list list′ : List ℕ) (r : ℕ) → Stretched (stretchAt count bytes at) (replicate 64 0) list′ r
+pub requests-file : (bytes : List ℕ) (at count : ℕ) (list list′ : List ℕ) (r : ℕ) → Stretched (stretchAt count bytes at) (replicate requestsMax 0) list′ r
     → RequestsRead bytes Kind.File at count list list′ r
-requests-file bytes at count list list′ r st = record { next = st .next; filed = st .filled ∙ over-zeros 64 (stretchAt count bytes at .numbers) }
+requests-file bytes at count list list′ r st = record { next = st .next; filed = st .filled ∙ over-zeros requestsMax (stretchAt count bytes at .numbers) }
 
 -- an event looks at five operands at most
 event-five : (kind : Kind) (ops : List ℕ) → eventOf kind (getD ops 0 0 ∷ getD ops 1 0 ∷ getD ops 2 0 ∷ getD ops 3 0 ∷ getD ops 4 0 ∷ []) ≡ eventOf kind ops
@@ -117,7 +118,7 @@ issue-leaves : (replica name : ℕ) (choice : ContentChoice) (requests list : Li
 issue-leaves replica name (ContentChoice.Content c) requests list = refl
 issue-leaves replica name ContentChoice.Refused requests list = refl
 
-filed-file : (kind : Kind) (ops requests list : List ℕ) → pick (isFile kind) (padded 64 requests) list ≡ filedInto (eventOf kind ops) requests list
+filed-file : (kind : Kind) (ops requests list : List ℕ) → pick (isFile kind) (padded requestsMax requests) list ≡ filedInto (eventOf kind ops) requests list
 filed-file Kind.Submit ops requests list = refl
 filed-file Kind.Issue ops requests list = issue-leaves (getD ops 0 0) (getD ops 1 0) (contentOf (getD ops 2 0) (getD ops 3 0) (getD ops 4 0)) requests list
 filed-file Kind.Deliver ops requests list = refl

@@ -8,6 +8,7 @@ use lib.ListN.{getD, set}
 use lib.Seq.{set-getD}
 use lib.Dec.{leb}
 use borrow.Author.Tests.{leb-false}
+use Rattle.terms.specs.Limits.{replicasMax}
 use Rattle.terms.specs.ListLaws.{split}
 use Rattle.terms.specs.declared.Event.{Event}
 use Rattle.ledger.specs.Ledger.{book}
@@ -54,11 +55,11 @@ module _ (bytes : List ℕ) (roles : Roles) (table : List ℕ) (k : ℕ) (s : St
       ∙ rw (set-getD (s .parts .replicas) me noReplica)
 
 -- the record concerned is one of the seven
-seven : (n : ℕ) → belowSeven n < 7
+seven : (n : ℕ) → belowSeven n < replicasMax
 unfolding belowSeven
-seven n = split (leb 7 n) (λ t. rw t (omega arith)) (λ t. rw t (leb-false 7 n t))
+seven n = split (leb replicasMax n) (λ t. rw t (omega arith)) (λ t. rw t (leb-false replicasMax n t))
 
-pub concerned-seven : (event : Event) (roles : Roles) → concernedIn event roles < 7
+pub concerned-seven : (event : Event) (roles : Roles) → concernedIn event roles < replicasMax
 unfolding concernedIn
 concerned-seven event roles = seven (concernedBy (roles .leader) (roles .switcher) event)
 

@@ -5,12 +5,12 @@ use mathlib.Core.List.{List}
 use Prim.Native.Nat.{ℕ, _+_, _*_, _-_, min}
 use lib.ListN.{getD, set, replicate}
 use lib.Dec.{leb, ltb, eqb}
-use Rattle.terms.specs.Limits.{replicasMax, names, counters, requestsMax}
+use Rattle.terms.specs.Limits.{replicasMax, up, sw, names, counters, requestsMax}
 use Rattle.terms.specs.Lists.{pick, leastOver, countBelow}
 use Rattle.terms.specs.Kit.{marksActive}
 use Rattle.terms.specs.declared.Condition.{Condition}
 use Rattle.terms.specs.declared.Condition.the-variants.{Running, Halted, Closed, Faulty}
-use Rattle.rules.specs.Table.{up, sw, activesFrom}
+use Rattle.rules.specs.Table.{activesFrom}
 use Rattle.rules.specs.Reading.{valueSeen}
 use Rattle.replica.specs.declared.Replica.{Replica}
 

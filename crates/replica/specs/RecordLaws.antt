@@ -7,7 +7,7 @@ use native.Mathlib.Omega.{arith}
 use lib.ListN.{length, take, replicate}
 use lib.Dec.{eqb}
 use borrow.Author.Tests.{le-ltb, le-leb, lt-leb, ne-eqb, eqb-true, eqb-false}
-use Rattle.terms.specs.Limits.{replicasMax, names, requestsMax}
+use Rattle.terms.specs.Limits.{replicasMax, up, sw, names, requestsMax}
 use Rattle.terms.specs.Lists.{pick, leastOver, countBelow}
 use Rattle.terms.specs.ListLaws.{split, no-way, length-snoc}
 use Rattle.terms.specs.Kit.{Kit, marksActive}
@@ -15,7 +15,7 @@ use Rattle.terms.specs.Padding.{pad, take-pad, getD-pad, set-pad, pad-nil}
 use Rattle.terms.specs.Tabulate.{getD-grid, set-grid, grid-constant}
 use Rattle.terms.specs.declared.Condition.{Condition}
 use Rattle.terms.specs.declared.Condition.the-variants.{Running, Halted, Closed, Faulty}
-use Rattle.rules.specs.Table.{up, sw, isActive, actives, activesFrom}
+use Rattle.rules.specs.Table.{isActive, actives, activesFrom}
 use Rattle.rules.specs.Room as Rules
 use Rattle.rules.specs.Reading.{isRunning, settledCount}
 use Rattle.rules.specs.Deliver.{markOfPair, switches}

@@ -6,7 +6,7 @@ use mathlib.Core.List.{List, [], _∷_}
 use Prim.Native.Nat.{ℕ, zero, suc, _≤_, _<_}
 use native.Mathlib.Omega.{arith}
 use lib.ListN.{length, getD}
-use Rattle.terms.specs.Limits.{replicas, requestsMax}
+use Rattle.terms.specs.Limits.{replicas, replicasMax, names, requestsMax}
 use Rattle.terms.specs.ListLaws.{no-way}
 use Rattle.terms.specs.Kit.{Kit, GoodKit, GoodEvent, marksActive}
 use Rattle.terms.specs.declared.Event.{Event}
@@ -24,22 +24,22 @@ marked-below (n ∷ ns) mark z (suc x) e = omega (arith, marked-below ns mark z 
 -- an event's operands that index something
 abbrev pub Operands : Event → List ℕ → Type 0
 Operands (Submit request) l = l ≡ []
-Operands (Issue replica name content) l = (replica < 7) × (name < 3) × (l ≡ [])
-Operands (Deliver sender name value to) l = (sender < 7) × (name < 3) × (to < 7) × (l ≡ [])
-Operands (Hand p q to) l = (to < 7) × (l ≡ [])
-Operands (Panic to) l = (to < 7) × (l ≡ [])
+Operands (Issue replica name content) l = (replica < replicasMax) × (name < names) × (l ≡ [])
+Operands (Deliver sender name value to) l = (sender < replicasMax) × (name < names) × (to < replicasMax) × (l ≡ [])
+Operands (Hand p q to) l = (to < replicasMax) × (l ≡ [])
+Operands (Panic to) l = (to < replicasMax) × (l ≡ [])
 Operands Idle l = l ≡ []
 Operands Build l = l ≡ []
 Operands (File j k) l = (j ≤ k) × (k ≤ length l) × (length l ≤ requestsMax)
 
 module _ {kit : Kit} (good : GoodKit kit) where
-  pub size-max : length (kit .table) ≤ 7
+  pub size-max : length (kit .table) ≤ replicasMax
   size-max = omega (arith, good .table-length, good .f-high)
 
   pub leader-below : kit .leader < length (kit .table)
   leader-below = omega (arith, good .table-length, good .leader-below)
 
-  pub leader-max : kit .leader < 7
+  pub leader-max : kit .leader < replicasMax
   leader-max = omega (arith, leader-below, size-max)
 
   pub active-below : (x : ℕ) → isActive kit x ≡ true → x < length (kit .table)
@@ -49,7 +49,7 @@ module _ {kit : Kit} (good : GoodKit kit) where
   pub switch-below : switchLeader kit < length (kit .table)
   switch-below = active-below (switchLeader kit) (roles kit good .switch-active)
 
-  pub switch-max : switchLeader kit < 7
+  pub switch-max : switchLeader kit < replicasMax
   switch-max = omega (arith, switch-below, size-max)
 
   pub operands : (e : Event) (l : List ℕ) → GoodEvent (replicas (kit .f)) e l → Operands e l
@@ -63,7 +63,7 @@ module _ {kit : Kit} (good : GoodKit kit) where
   operands Build l g = g
   operands (File j k) l g = (g .0, g .1, g .2)
 
-  concerned-operands : (e : Event) (l : List ℕ) → Operands e l → concerned kit e < 7
+  concerned-operands : (e : Event) (l : List ℕ) → Operands e l → concerned kit e < replicasMax
   unfolding concerned
   concerned-operands (Submit request) l o = leader-max
   concerned-operands (Issue replica name content) l o = o .0
@@ -75,5 +75,5 @@ module _ {kit : Kit} (good : GoodKit kit) where
   concerned-operands (File j k) l o = omega arith
 
 -- the replica that a good event concerns is one of the seven
-pub concerned-below : (kit : Kit) (event : Event) (list : List ℕ) → GoodKit kit → GoodEvent (replicas (kit .f)) event list → concerned kit event < 7
+pub concerned-below : (kit : Kit) (event : Event) (list : List ℕ) → GoodKit kit → GoodEvent (replicas (kit .f)) event list → concerned kit event < replicasMax
 concerned-below kit event list good e = concerned-operands good event list (operands good event list e)

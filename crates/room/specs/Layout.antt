@@ -4,6 +4,8 @@ use mathlib.Core.Option.{Option, none, some}
 use mathlib.Core.List.{List, [], _∷_}
 use Prim.Native.Nat.{ℕ}
 use lib.ListN.{length}
+use Rattle.terms.specs.Lent.{Table, Requests, Ticks, Heads, Lists}
+use Rattle.terms.specs.Limits.{replicasMax, requestsMax, historiesMax}
 use Rattle.terms.specs.Lists.{nth, isSome}
 use Rattle.terms.specs.Padding.{pad}
 use Rattle.terms.specs.Tabulate.{tab}
@@ -12,7 +14,7 @@ use Rattle.rules.specs.Table.{switchLeader}
 use Rattle.rules.specs.Room.{Room, Filing}
 use Rattle.rules.specs.Room as Rules
 use Rattle.rules.specs.Reading.{listOf}
-use Rattle.ledger.specs.Ledger.{Places}
+use Rattle.ledger.specs.Ledger.{Ledger, Issued}
 use Rattle.ledger.specs.LedgerLayout.{layLedger, layIssued}
 use Rattle.replica.specs.declared.Replica.{Replica}
 use Rattle.replica.specs.RecordLayout.{numberOr0, layReplica}
@@ -23,12 +25,12 @@ use Rattle.room.specs.declared.Roles.{Roles}
 -- the list; the counters' places and how many are taken; the replicas' records
 pub record Parts : Type 0 where
   pub desk : Desk
-  pub requests : List ℕ
-  pub ticks : List ℕ
-  pub heads : List (List ℕ)
-  pub lists : List (List ℕ)
-  pub ledger : List Places
-  pub issued : List ℕ
+  pub requests : Requests
+  pub ticks : Ticks
+  pub heads : Heads
+  pub lists : Lists
+  pub ledger : Ledger
+  pub issued : Issued
   pub replicas : List Replica
 
 -- ---- the kit's settings
@@ -37,8 +39,8 @@ unfoldable pub layRoles : Kit → Roles
 layRoles kit =
     record { f = kit .f; size = length (kit .table); leader = kit .leader; switcher = switchLeader kit; patience = kit .patience }
 
-unfoldable pub layTable : Kit → List ℕ
-layTable kit = pad 7 (kit .table)
+unfoldable pub layTable : Kit → Table
+layTable kit = pad replicasMax (kit .table)
 
 -- ---- the room
 
@@ -47,11 +49,11 @@ abbrev pub headOf : Option Filing → List ℕ
 headOf none = 0 ∷ 0 ∷ 0 ∷ []
 headOf (some h) = h .j ∷ h .k ∷ length (h .list) ∷ []
 
-unfoldable pub layHeads : List Filing → List (List ℕ)
-layHeads histories = tab 8 (λ h. headOf (nth histories h))
+unfoldable pub layHeads : List Filing → Heads
+layHeads histories = tab historiesMax (λ h. headOf (nth histories h))
 
-unfoldable pub layLists : List Filing → List (List ℕ)
-layLists histories = tab 8 (λ h. pad 64 (listOf (nth histories h)))
+unfoldable pub layLists : List Filing → Lists
+layLists histories = tab historiesMax (λ h. pad requestsMax (listOf (nth histories h)))
 
 -- `known` counts the first submissions that are known to be answered; the rules do not keep it
 unfoldable pub layDesk : Room → ℕ → Desk
@@ -67,14 +69,14 @@ layDesk r known =
     }
 
 unfoldable pub layReplicas : (ℕ → Rules.Replica) → List Replica
-layReplicas replica = tab 7 (λ x. layReplica (replica x))
+layReplicas replica = tab replicasMax (λ x. layReplica (replica x))
 
 unfoldable pub layRoom : Room → ℕ → Parts
 layRoom r known =
     record {
       desk = layDesk r known;
-      requests = pad 64 (r .submitted);
-      ticks = pad 64 (r .ticks);
+      requests = pad requestsMax (r .submitted);
+      ticks = pad requestsMax (r .ticks);
       heads = layHeads (r .histories);
       lists = layLists (r .histories);
       ledger = layLedger (r .counter);

@@ -8,6 +8,7 @@ use lib.ListN.{length, getD, set}
 use lib.Seq.{set-getD}
 use lib.Dec.{eqb}
 use borrow.Author.Tests.{eqb-true, eqb-false}
+use Rattle.terms.specs.Limits.{replicasMax, requestsMax, historiesMax}
 use Rattle.terms.specs.Lists.{nth}
 use Rattle.terms.specs.ListLaws.{split, nth-snoc}
 use Rattle.terms.specs.Padding.{pad}
@@ -39,28 +40,28 @@ module _ (histories : List Filing) where
   unfolding layHeads
   store-head h = rows-snoc 8 headOf histories h
 
-  pub store-list : (h : Filing) → set (layLists histories) (length histories) (pad 64 (h .list)) ≡ layLists (histories ++ (h ∷ []))
+  pub store-list : (h : Filing) → set (layLists histories) (length histories) (pad requestsMax (h .list)) ≡ layLists (histories ++ (h ∷ []))
   unfolding layLists
-  store-list h = rows-snoc 8 (λ o. pad 64 (listOf o)) histories h
+  store-list h = rows-snoc 8 (λ o. pad requestsMax (listOf o)) histories h
 
-  pub head-laid : (h : ℕ) → h < 8 → getD (layHeads histories) h [] ≡ headOf (nth histories h)
+  pub head-laid : (h : ℕ) → h < historiesMax → getD (layHeads histories) h [] ≡ headOf (nth histories h)
   unfolding layHeads
-  head-laid h below = getD-tab 8 (λ i. headOf (nth histories i)) h [] below
+  head-laid h below = getD-tab historiesMax (λ i. headOf (nth histories i)) h [] below
 
-  pub list-laid : (h : ℕ) → h < 8 → getD (layLists histories) h [] ≡ pad 64 (listOf (nth histories h))
+  pub list-laid : (h : ℕ) → h < historiesMax → getD (layLists histories) h [] ≡ pad requestsMax (listOf (nth histories h))
   unfolding layLists
-  list-laid h below = getD-tab 8 (λ i. pad 64 (listOf (nth histories i))) h [] below
+  list-laid h below = getD-tab historiesMax (λ i. pad requestsMax (listOf (nth histories i))) h [] below
 
 module _ (replica : ℕ → Rules.Replica) (x : ℕ) where
-  pub replica-laid : (d : Replica) → x < 7 → getD (layReplicas replica) x d ≡ layReplica (replica x)
+  pub replica-laid : (d : Replica) → x < replicasMax → getD (layReplicas replica) x d ≡ layReplica (replica x)
   unfolding layReplicas
-  replica-laid d below = getD-tab 7 (λ y. layReplica (replica y)) x d below
+  replica-laid d below = getD-tab replicasMax (λ y. layReplica (replica y)) x d below
 
   pub store-replica : (p : Rules.Replica) → set (layReplicas replica) x (layReplica p) ≡ layReplicas (put1 replica x p)
   unfolding layReplicas
   store-replica p =
-      set-tab 7 (λ y. layReplica (replica y)) x (layReplica p) ∙ tab-ext 7 _ _ (λ y h. split (eqb y x) (λ e. rw e) (λ e. rw e))
+      set-tab replicasMax (λ y. layReplica (replica y)) x (layReplica p) ∙ tab-ext replicasMax _ _ (λ y h. split (eqb y x) (λ e. rw e) (λ e. rw e))
 
   -- the record that stands there
-  pub keep-replica : x < 7 → set (layReplicas replica) x (layReplica (replica x)) ≡ layReplicas replica
+  pub keep-replica : x < replicasMax → set (layReplicas replica) x (layReplica (replica x)) ≡ layReplicas replica
   keep-replica below = let e = replica-laid (layReplica (replica x)) below in rw (← e) (set-getD (layReplicas replica) x (layReplica (replica x)))

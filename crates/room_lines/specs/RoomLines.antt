@@ -11,7 +11,7 @@ use Rattle.terms.specs.Lists.{pick}
 use Rattle.terms.specs.declared.ContentChoice.{ContentChoice}
 use Rattle.terms.specs.declared.ContentChoice.the-variants as ContentChoice
 use Rattle.text.specs.Text.{decimal}
-use Rattle.ledger.specs.Ledger.{Places, totalOf, lookUp}
+use Rattle.ledger.specs.Ledger.{totalOf, lookUp, Ledger, Issued}
 use Rattle.replica.specs.declared.Replica.{Replica}
 use Rattle.replica.specs.Record.{freshRecord}
 use Rattle.room.specs.declared.Desk.{Desk}
@@ -50,21 +50,21 @@ choiceText ContentChoice.Refused = []
 choiceText (ContentChoice.Content c) = contentText c
 
 -- the content after the first i
-abbrev pub contentAtPlace : List Places → List ℕ → ℕ → ℕ → ℕ → List ℕ
+abbrev pub contentAtPlace : Ledger → Issued → ℕ → ℕ → ℕ → List ℕ
 contentAtPlace ledger issued x name i = choiceText (lookUp ledger issued x name (suc i))
 
-unfoldable pub contentsIn : List Places → List ℕ → ℕ → ℕ → ℕ → List ℕ
+unfoldable pub contentsIn : Ledger → Issued → ℕ → ℕ → ℕ → List ℕ
 contentsIn ledger issued x name n = linesFrom 0 (min n placesMax) (contentAtPlace ledger issued x name)
 
-unfoldable pub counterLine : List Places → List ℕ → ℕ → ℕ → List ℕ
+unfoldable pub counterLine : Ledger → Issued → ℕ → ℕ → List ℕ
 counterLine ledger issued x name =
     counterText x name (totalOf issued x name) (contentsIn ledger issued x name (totalOf issued x name))
 
 -- the three counters of replica x
-unfoldable pub countersAt : List Places → List ℕ → ℕ → List ℕ
+unfoldable pub countersAt : Ledger → Issued → ℕ → List ℕ
 countersAt ledger issued x = counterLine ledger issued x ag ++ (counterLine ledger issued x up ++ counterLine ledger issued x sw)
 
-unfoldable pub counterLines : List Places → List ℕ → ℕ → List ℕ
+unfoldable pub counterLines : Ledger → Issued → ℕ → List ℕ
 counterLines ledger issued size = linesFrom 0 (min size replicasMax) (countersAt ledger issued)
 
 -- ---- replicas
@@ -98,7 +98,7 @@ replicaLines replicas roles table heads lists issued =
 
 -- the room after n events
 unfoldable pub roomLines
-    : Answers → ℕ → Desk → List Replica → Roles → Table → Requests → Ticks → Heads → Lists → List Places → List ℕ → List ℕ
+    : Answers → ℕ → Desk → List Replica → Roles → Table → Requests → Ticks → Heads → Lists → Ledger → Issued → List ℕ
 roomLines answers n desk replicas roles table requests ticks heads lists ledger issued =
     eventText n (desk .clock) (answerIn answers n) (desk .late) (desk .due)
     ++ (submittedLine requests ticks (desk .submitted)

@@ -2,6 +2,7 @@
 use mathlib.Core.List.{List}
 use Prim.Native.Nat.{ℕ}
 use lib.ListN.{length}
+use Rattle.terms.specs.Limits.{ag, up, sw}
 use Rattle.terms.specs.Lists.{nth, holds}
 use Rattle.terms.specs.Kit.{Kit}
 use Rattle.terms.specs.declared.Event.{Event}
@@ -10,7 +11,7 @@ use Rattle.terms.specs.declared.Act.{Act}
 use Rattle.terms.specs.declared.Act.the-variants as Act
 use Rattle.terms.specs.declared.Decision.{Decision}
 use Rattle.terms.specs.declared.Decision.the-variants as Decision
-use Rattle.rules.specs.Table.{ag, up, sw, isActive, switchLeader}
+use Rattle.rules.specs.Table.{isActive, switchLeader}
 use Rattle.rules.specs.Room.{Room, issue, notePair, accept}
 use Rattle.rules.specs.Reading.{contentAt}
 use Rattle.rules.specs.Sight.{sightOf}

@@ -6,6 +6,7 @@ use mathlib.Core.List.{List}
 use Prim.Native.Nat.{ℕ, zero, suc}
 use lib.ListN.{length, getD}
 use lib.Dec.{leb, ltb, eqb}
+use Rattle.terms.specs.Limits.{ag, up, sw}
 use Rattle.terms.specs.Lists.{pick, isSome, countBelow}
 use Rattle.terms.specs.Mark.{nextMark, markOf}
 use Rattle.terms.specs.Kit.{Kit}
@@ -17,7 +18,6 @@ use Rattle.terms.specs.declared.Answer.the-variants.{NotIssued, ReceiverFaulty,
 use Rattle.terms.specs.declared.Act.the-variants as Act
 use Rattle.terms.specs.declared.Decision.{Decision}
 use Rattle.terms.specs.declared.Decision.the-variants as Decision
-use Rattle.rules.specs.Table.{ag, up, sw}
 use Rattle.rules.specs.Room.{Replica, Room, withReplica, withCondition, withMark, note, accept, issue}
 use Rattle.rules.specs.Reading.{isRunning, isClosed, isFaulty, isContent, firstOf, secondOf, agTotal, settledCount, heldList}
 use Rattle.rules.specs.Sight.{Sight, isNew}

@@ -5,6 +5,7 @@ use mathlib.Core.List.{List, []}
 use Prim.Native.Nat.{ℕ, zero, suc, _-_}
 use lib.ListN.{length, take, getD}
 use lib.Dec.{eqb}
+use Rattle.terms.specs.Limits.{ag, up}
 use Rattle.terms.specs.Lists.{pick, nth, allOf, anyBelow, leastOver}
 use Rattle.terms.specs.Kit.{Kit}
 use Rattle.terms.specs.Numbers.{contentNumbers}
@@ -12,7 +13,7 @@ use Rattle.terms.specs.declared.Content.{Content}
 use Rattle.terms.specs.declared.Content.the-variants.{Update}
 use Rattle.terms.specs.declared.Condition.{Condition}
 use Rattle.terms.specs.declared.Condition.the-variants.{Running, Halted, Closed, Faulty}
-use Rattle.rules.specs.Table.{ag, up, isActive, actives}
+use Rattle.rules.specs.Table.{isActive, actives}
 use Rattle.rules.specs.Room.{Filing, Replica, Room}
 
 -- ---- conditions

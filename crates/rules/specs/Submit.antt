@@ -4,7 +4,7 @@ use mathlib.Core.Bool.{Bool, false, not}
 use mathlib.Core.List.{List}
 use Prim.Native.Nat.{ℕ, suc}
 use lib.Dec.{leb}
-use Rattle.terms.specs.Limits.{requestsMax, filedMax, placesMax}
+use Rattle.terms.specs.Limits.{ag, placesMax, requestsMax, filedMax}
 use Rattle.terms.specs.Lists.{pick}
 use Rattle.terms.specs.Kit.{Kit}
 use Rattle.terms.specs.declared.Content.{Content}
@@ -13,7 +13,6 @@ use Rattle.terms.specs.declared.Condition.{Condition}
 use Rattle.terms.specs.declared.Answer.the-variants.{AlreadySubmitted, SubmissionsFull, NotFaulty, Unexpected, CounterFull, FilesFull}
 use Rattle.terms.specs.declared.Decision.{Decision}
 use Rattle.terms.specs.declared.Decision.the-variants as Decision
-use Rattle.rules.specs.Table.{ag}
 use Rattle.rules.specs.Room.{Room, remember, withReplica, withHistory, note, issue}
 use Rattle.rules.specs.Reading.{isRunning, isFaulty}
 use Rattle.rules.specs.Outcome.{refuseIf}

@@ -6,6 +6,7 @@ use mathlib.Core.List.{List, [], _∷_, _++_}
 use Prim.Native.Nat.{ℕ, suc}
 use lib.ListN.{length, take}
 use lib.Dec.{eqb}
+use Rattle.terms.specs.Limits.{ag, up, sw}
 use Rattle.terms.specs.Lists.{pick, holds, distinct, allOf, allBelow, isSome}
 use Rattle.terms.specs.Mark.{markOf}
 use Rattle.terms.specs.Kit.{Kit}
@@ -17,7 +18,7 @@ use Rattle.terms.specs.declared.Answer.the-variants.{NotIssued, ReceiverFaulty,
 use Rattle.terms.specs.declared.Act.the-variants as Act
 use Rattle.terms.specs.declared.Decision.{Decision}
 use Rattle.terms.specs.declared.Decision.the-variants as Decision
-use Rattle.rules.specs.Table.{ag, up, sw, actives, switchLeader}
+use Rattle.rules.specs.Table.{actives, switchLeader}
 use Rattle.rules.specs.Room.{Filing, Room, withReplica, withCondition, withHistory, hold, issue}
 use Rattle.rules.specs.Reading.{isRunning, isClosed, isFaulty, entryAt, contentAt, isContent, firstOf, agTotal, settledCount}
 use Rattle.rules.specs.Outcome.{refuseIf}

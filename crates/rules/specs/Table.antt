@@ -1,4 +1,4 @@
--- What a kit's settings say of its replicas: active, passive, faulty, leader, switch leader; and the names of the counters.
+-- What a kit's settings say of its replicas: active, passive, faulty, leader, switch leader.
 -- Laws: TableLaws. Assumes nothing.
 use mathlib.Core.Bool.{Bool}
 use mathlib.Core.List.{List, [], _∷_}
@@ -7,16 +7,6 @@ use lib.ListN.{getD}
 use lib.Dec.{eqb}
 use Rattle.terms.specs.Lists.{pick}
 use Rattle.terms.specs.Kit.{Kit, marksActive, marksFaulty}
-
--- each replica owns three counters
-abbrev pub ag : ℕ
-ag = 0
-
-abbrev pub up : ℕ
-up = 1
-
-abbrev pub sw : ℕ
-sw = 2
 
 -- f+1 replicas are active, the others passive
 unfoldable pub isActive : Kit → ℕ → Bool

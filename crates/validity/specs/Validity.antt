@@ -5,13 +5,13 @@ use mathlib.Core.List.{[]}
 use Prim.Native.Nat.{ℕ, suc}
 use lib.ListN.{length, take, getD}
 use lib.Dec.{leb, ltb, eqb}
-use Rattle.terms.specs.Limits.{requestsMax, historiesMax}
+use Rattle.terms.specs.Limits.{ag, up, requestsMax, historiesMax}
 use Rattle.terms.specs.Lent.{Table, Requests, Heads, Lists}
 use Rattle.terms.specs.Lists.{pick, holds, distinct, allOf, allBelow}
 use Rattle.terms.specs.Mark.{markOf}
 use Rattle.terms.specs.declared.Content.{Content}
 use Rattle.terms.specs.declared.Content.the-variants as Content
-use Rattle.rules.specs.Table.{ag, up, activesFrom}
+use Rattle.rules.specs.Table.{activesFrom}
 use Rattle.rules.specs.Reading.{isContent}
 use Rattle.ledger.specs.Ledger.{Ledger, Issued, contentOn}
 

@@ -11,6 +11,7 @@ use Prim.Native.Nat.{ℕ, zero, suc, _<_}
 use native.Mathlib.Omega.{arith}
 use lib.Dec.{eqb}
 use borrow.Author.Tests.{eqb-true, ne-eqb}
+use Rattle.terms.specs.Limits.{ag, up}
 use Rattle.terms.specs.Lists.{nth, isSome}
 use Rattle.terms.specs.ListLaws.{no-way, and-l, and-r, not-true-false}
 use Rattle.terms.specs.Kit.{Kit, GoodKit, Entry}
@@ -19,7 +20,7 @@ use Rattle.terms.specs.declared.Content.the-variants.{History}
 use Rattle.terms.specs.declared.Condition.the-variants.{Running, Halted}
 use Rattle.terms.specs.declared.Event.the-variants.{Hand, Panic}
 use Rattle.terms.specs.declared.Answer.the-variants.{Taken, NotValid}
-use Rattle.rules.specs.Table.{ag, up, isMarkedFaulty, switchLeader}
+use Rattle.rules.specs.Table.{isMarkedFaulty, switchLeader}
 use Rattle.rules.specs.laws.TableLaws.{Roles, roles}
 use Rattle.rules.specs.Room.{Room, Replica, Filing, freshRoom, freshReplica, withReplica, withCondition, issue, hold}
 use Rattle.rules.specs.laws.RoomLaws.{replica-same}

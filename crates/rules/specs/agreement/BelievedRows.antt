@@ -9,6 +9,7 @@ use native.Mathlib.Omega.{arith}
 use Rattle.grammar.specs.Operands.{filedOf}
 use Rattle.grammar.specs.Parser.{parse}
 use Rattle.grammar.specs.ParserLaws.{accepted-good}
+use Rattle.terms.specs.Limits.{ag, up}
 use Rattle.terms.specs.Numbers.{contentOf, kindOf}
 use Rattle.terms.specs.Kit.{Kit, GoodKit, kitNumbers}
 use Rattle.terms.specs.declared.Content.the-variants.{History}
@@ -16,7 +17,7 @@ use Rattle.terms.specs.declared.Condition.the-variants.{Running}
 use Rattle.terms.specs.declared.Event.{Event}
 use Rattle.terms.specs.declared.Event.the-variants.{Submit, Issue, Deliver, Hand, Panic, Build, File}
 use Rattle.terms.specs.declared.Answer.the-variants.{Taken, NotValid, CannotBuild}
-use Rattle.rules.specs.Table.{ag, up, isMarkedFaulty, switchLeader}
+use Rattle.rules.specs.Table.{isMarkedFaulty, switchLeader}
 use Rattle.rules.specs.Room.{Filing}
 use Rattle.rules.specs.Play.{after, answer}
 use Rattle.rules.specs.examples.Computing.{computing}

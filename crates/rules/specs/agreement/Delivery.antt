@@ -9,6 +9,7 @@ use native.Mathlib.Omega.{arith}
 use lib.ListN.{length, getD}
 use lib.Dec.{eqb, ltb, leb}
 use borrow.Author.Tests.{ltb-true, ltb-false, eqb-false}
+use Rattle.terms.specs.Limits.{ag, up, sw}
 use Rattle.terms.specs.Lists.{nth, holds, Sub, isSome}
 use Rattle.terms.specs.ListLaws.{split, no-way, pick-elim, and-r, or-l, or-r, not-was-false, not-was-true, nth-append, nth-snoc, nth-getD}
 use Rattle.terms.specs.ListLaws.{length-snoc}
@@ -19,7 +20,7 @@ use Rattle.terms.specs.declared.Content.the-variants.{Prepare, Commit, Update}
 use Rattle.terms.specs.declared.Condition.{Condition}
 use Rattle.terms.specs.declared.Condition.the-variants.{Closed}
 use Rattle.terms.specs.declared.Event.{Event}
-use Rattle.rules.specs.Table.{ag, up, sw, isActive, isMarkedFaulty}
+use Rattle.rules.specs.Table.{isActive, isMarkedFaulty}
 use Rattle.rules.specs.laws.TableLaws.{Roles}
 use Rattle.rules.specs.Room.{Room, Replica, withReplica, issue, withCondition, withMark, note, notePair, accept}
 use Rattle.rules.specs.laws.RoomLaws.{accepted-rises, accepted-by-one}

@@ -6,7 +6,7 @@ use mathlib.Core.List.{List, [], _∷_, _++_}
 use Prim.Native.Nat.{ℕ, suc, _<_}
 use native.Mathlib.Omega.{arith}
 use lib.ListN.{length}
-use Rattle.terms.specs.Limits.{requestsMax}
+use Rattle.terms.specs.Limits.{ag, up, requestsMax}
 use Rattle.terms.specs.Lists.{holds}
 use Rattle.terms.specs.ListLaws.{no-way, pick-elim, not-true-false, nth-append, nth-snoc, length-snoc, holds-at, holds-nth}
 use Rattle.terms.specs.Kit.{Kit, GoodEvent, Entry, GoodEntry}
@@ -18,7 +18,7 @@ use Rattle.terms.specs.declared.Act.{Act}
 use Rattle.terms.specs.declared.Act.the-variants as Act
 use Rattle.terms.specs.declared.Decision.{Decision}
 use Rattle.terms.specs.declared.Decision.the-variants as Decision
-use Rattle.rules.specs.Table.{ag, up, isMarkedFaulty, switchLeader}
+use Rattle.rules.specs.Table.{isMarkedFaulty, switchLeader}
 use Rattle.rules.specs.laws.TableLaws.{Roles}
 use Rattle.rules.specs.Room.{Room, Replica, withReplica, withClock, withLate, issue, remember, withCondition, note}
 use Rattle.rules.specs.Reading.{isRunning, isClosed, isFaulty, settledCount, settledNoted, agTotal}

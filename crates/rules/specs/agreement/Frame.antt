@@ -7,12 +7,12 @@ use mathlib.Core.List.{List, [], _∷_, _++_}
 use Prim.Native.Nat.{ℕ, suc, _<_}
 use native.Mathlib.Omega.{arith}
 use lib.ListN.{length}
-use Rattle.terms.specs.Limits.{requestsMax}
+use Rattle.terms.specs.Limits.{ag, up, sw, requestsMax}
 use Rattle.terms.specs.Lists.{nth, holds, Sub}
 use Rattle.terms.specs.ListLaws.{split, same?, nth-snoc-inv, once-snoc, length-snoc}
 use Rattle.terms.specs.Kit.{Kit}
 use Rattle.terms.specs.declared.Content.{Content}
-use Rattle.rules.specs.Table.{ag, up, sw, isMarkedFaulty}
+use Rattle.rules.specs.Table.{isMarkedFaulty}
 use Rattle.rules.specs.Room.{Room, Replica, Filing, withReplica, issue, withHistory, remember}
 use Rattle.rules.specs.laws.RoomLaws.{replica-same, replica-other, counter-same, counter-other}
 use Rattle.rules.specs.Reading.{isClosed, isFaulty, settledNoted, settled, heldList, agTotal}

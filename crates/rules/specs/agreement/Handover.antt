@@ -11,6 +11,7 @@ use lib.ListN.{length, getD, length-append, List·getD-append}
 use lib.Seq.{take-append-le}
 use lib.Dec.{eqb}
 use borrow.Author.Tests.{eqb-true}
+use Rattle.terms.specs.Limits.{ag, up}
 use Rattle.terms.specs.Lists.{nth, holds, distinct, allOf, allBelow, Once}
 use Rattle.terms.specs.ListLaws.{split, no-way, pick-elim, and-l, and-r, not-true-false, eqb-same, nth-lt}
 use Rattle.terms.specs.ListLaws.{nth-snoc, nth-app-inv, nth-getD, length-snoc, holds-nth, not-holds, allBelow-at, allOf-at, distinct-once, once-cons}
@@ -18,7 +19,7 @@ use Rattle.terms.specs.ListLaws.{once-head, once-tail, once-append}
 use Rattle.terms.specs.Kit.{Kit}
 use Rattle.terms.specs.declared.Content.{Content}
 use Rattle.terms.specs.declared.Content.the-variants.{Prepare, Commit, History, Switch}
-use Rattle.rules.specs.Table.{ag, up, isMarkedFaulty, switchLeader}
+use Rattle.rules.specs.Table.{isMarkedFaulty, switchLeader}
 use Rattle.rules.specs.laws.TableLaws.{Roles}
 use Rattle.rules.specs.Room.{Room, Replica, Filing, withReplica, issue, withHistory, hold}
 use Rattle.rules.specs.Reading.{isRunning, isClosed, isFaulty, contentAt, isContent, settledCount, settledNoted}

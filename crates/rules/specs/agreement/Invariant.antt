@@ -7,13 +7,13 @@ use mathlib.Core.Option.{Option, none, some}
 use mathlib.Core.List.{List}
 use Prim.Native.Nat.{ℕ, suc, _≤_, _<_}
 use lib.ListN.{length, take}
-use Rattle.terms.specs.Limits.{requestsMax}
+use Rattle.terms.specs.Limits.{ag, up, requestsMax}
 use Rattle.terms.specs.Lists.{nth, holds, Once}
 use Rattle.terms.specs.Mark.{markOf}
 use Rattle.terms.specs.Kit.{Kit}
 use Rattle.terms.specs.declared.Content.{Content}
 use Rattle.terms.specs.declared.Content.the-variants.{Prepare, Commit, Update, History}
-use Rattle.rules.specs.Table.{ag, up, isActive, isMarkedFaulty, switchLeader}
+use Rattle.rules.specs.Table.{isActive, isMarkedFaulty, switchLeader}
 use Rattle.rules.specs.Room.{Room, Replica, Filing}
 use Rattle.rules.specs.Reading.{isRunning, isClosed, isFaulty, settledCount, settledNoted}
 use Rattle.rules.specs.laws.Growth.{Grows, still-submitted}

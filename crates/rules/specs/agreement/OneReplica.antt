@@ -10,6 +10,7 @@ use lib.ListN.{length, take, getD}
 use lib.Seq.{take-append-le}
 use lib.Dec.{eqb, ltb}
 use borrow.Author.Tests.{ltb-true, ltb-false, eqb-true}
+use Rattle.terms.specs.Limits.{ag, up}
 use Rattle.terms.specs.Lists.{nth, holds, Sub}
 use Rattle.terms.specs.ListLaws.{split, no-way, same?, nth-append, nth-full, nth-snoc, nth-snoc-inv, take-nth, nth-getD}
 use Rattle.terms.specs.ListLaws.{length-snoc, once-snoc}
@@ -19,7 +20,7 @@ use Rattle.terms.specs.Kit.{Kit}
 use Rattle.terms.specs.declared.Content.{Content}
 use Rattle.terms.specs.declared.Content.the-variants.{Prepare, Commit, Update, History}
 use Rattle.terms.specs.declared.Condition.the-variants.{Halted, Closed}
-use Rattle.rules.specs.Table.{ag, up, isActive, switchLeader}
+use Rattle.rules.specs.Table.{isActive, switchLeader}
 use Rattle.rules.specs.Room.{Room, Replica, put2, note, accept, withMark, withCondition, hold}
 use Rattle.rules.specs.laws.RoomLaws.{accepted-at, accepted-other}
 use Rattle.rules.specs.Reading.{isRunning, isClosed, settledCount, settledNoted}

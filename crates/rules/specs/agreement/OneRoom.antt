@@ -11,11 +11,12 @@ use Prim.Native.Nat.{ℕ, _<_}
 use native.Mathlib.Omega.{arith}
 use lib.Dec.{ltb}
 use borrow.Author.Tests.{ltb-true, ltb-false}
+use Rattle.terms.specs.Limits.{ag, up}
 use Rattle.terms.specs.Lists.{nth, holds, Once, Sub, Agree}
 use Rattle.terms.specs.ListLaws.{split, no-way, nth-lt, nth-in, tri, same?}
 use Rattle.terms.specs.Kit.{Kit}
 use Rattle.terms.specs.declared.Content.the-variants.{Prepare}
-use Rattle.rules.specs.Table.{ag, up, isActive, isMarkedFaulty, switchLeader}
+use Rattle.rules.specs.Table.{isActive, isMarkedFaulty, switchLeader}
 use Rattle.rules.specs.laws.TableLaws.{Roles}
 use Rattle.rules.specs.Room.{Room}
 use Rattle.rules.specs.Reading.{isClosed, isFaulty, settledCount, settledNoted, settled, heldList, agTotal}

@@ -5,6 +5,7 @@ use mathlib.Core.Option.{some}
 use mathlib.Core.List.{List, [], _∷_}
 use Rattle.grammar.specs.Parser.{parse}
 use Rattle.grammar.specs.ParserLaws.{accepted-good}
+use Rattle.terms.specs.Limits.{ag, up, sw}
 use Rattle.terms.specs.Numbers.{contentOf, kindOf}
 use Rattle.terms.specs.Kit.{Kit, Entry, GoodKit, kitNumbers}
 use Rattle.terms.specs.declared.Content.the-variants.{Prepare}
@@ -12,7 +13,6 @@ use Rattle.terms.specs.declared.Condition.the-variants.{Closed}
 use Rattle.terms.specs.declared.Event.{Event}
 use Rattle.terms.specs.declared.Event.the-variants.{Submit, Issue, Deliver, Hand, Panic, Build}
 use Rattle.terms.specs.declared.Answer.the-variants.{Unexpected, NotNext}
-use Rattle.rules.specs.Table.{ag, up, sw}
 use Rattle.rules.specs.Play.{after, answer}
 use Rattle.rules.specs.examples.Computing.{computing}
 use Rattle.rules.specs.agreement.Theorem.{settledAt, Correct}

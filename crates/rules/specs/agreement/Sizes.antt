@@ -6,11 +6,11 @@ use mathlib.Core.List.{List, [], _∷_}
 use Prim.Native.Nat.{ℕ, zero, suc, _*_, _≤_}
 use native.Mathlib.Omega.{arith}
 use lib.ListN.{length, take, length-take}
-use Rattle.terms.specs.Limits.{replicas, eventsMax, ticksMax, requestsMax, filedMax, placesMax}
+use Rattle.terms.specs.Limits.{replicas, ag, up, sw, placesMax, requestsMax, filedMax, ticksMax, eventsMax}
 use Rattle.terms.specs.Lists.{nth, Once}
 use Rattle.terms.specs.ListLaws.{split, nth-take}
 use Rattle.terms.specs.Kit.{Kit, GoodKit, GoodEntries, Entry}
-use Rattle.rules.specs.Table.{ag, up, sw, isActive, isMarkedFaulty}
+use Rattle.rules.specs.Table.{isActive, isMarkedFaulty}
 use Rattle.rules.specs.Room.{Room, freshRoom, freshReplica}
 use Rattle.rules.specs.Clock.{tick}
 use Rattle.rules.specs.Play.{play, after}

@@ -5,12 +5,13 @@ use mathlib.Core.Logic.{_≢_}
 use mathlib.Core.Option.{some}
 use Prim.Native.Nat.{ℕ, suc, _≤_, _<_}
 use lib.ListN.{length, take, getD}
+use Rattle.terms.specs.Limits.{ag, up}
 use Rattle.terms.specs.Lists.{nth, holds, Once}
 use Rattle.terms.specs.ListLaws.{nth-lt, nth-getD}
 use Rattle.terms.specs.Mark.{markOf}
 use Rattle.terms.specs.Kit.{Kit}
 use Rattle.terms.specs.declared.Content.the-variants.{Prepare, Commit, Update, History}
-use Rattle.rules.specs.Table.{ag, up, actives, switchLeader}
+use Rattle.rules.specs.Table.{actives, switchLeader}
 use Rattle.rules.specs.Room.{Room, Filing}
 use Rattle.rules.specs.laws.Growth.{Grows, still-submitted}
 use Rattle.rules.specs.agreement.Invariant.{Backed}

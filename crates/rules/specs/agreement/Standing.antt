@@ -9,12 +9,13 @@ use Prim.Native.Nat.{ℕ, suc, _≤_, _<_}
 use native.Mathlib.Omega.{arith}
 use lib.ListN.{length, take, getD}
 use lib.Seq.{length-take-le, take-take}
+use Rattle.terms.specs.Limits.{ag, up}
 use Rattle.terms.specs.Lists.{nth}
 use Rattle.terms.specs.ListLaws.{split, nth-lt, nth-getD, take-nth}
 use Rattle.terms.specs.Mark.{markOf}
 use Rattle.terms.specs.Kit.{Kit, GoodKit}
 use Rattle.terms.specs.declared.Content.the-variants.{Commit, Update}
-use Rattle.rules.specs.Table.{ag, up, isActive}
+use Rattle.rules.specs.Table.{isActive}
 use Rattle.rules.specs.laws.TableLaws.{Roles, roles}
 use Rattle.rules.specs.Room.{Room}
 use Rattle.rules.specs.Reading.{isClosed, settledCount, settledNoted, settled, agTotal}

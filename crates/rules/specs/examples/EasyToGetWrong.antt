@@ -3,6 +3,7 @@ use mathlib.Core.Path.{_≡_, refl}
 use mathlib.Core.Option.{Option, none, some}
 use mathlib.Core.List.{List, [], _∷_, _++_}
 use Prim.Native.Nat.{ℕ, zero, suc}
+use Rattle.terms.specs.Limits.{ag, up, sw}
 use Rattle.terms.specs.Lists.{nth}
 use Rattle.terms.specs.Kit.{Kit, Entry}
 use Rattle.terms.specs.Numbers.{answerNumber, kindOf}
@@ -12,7 +13,6 @@ use Rattle.terms.specs.declared.Event.the-variants.{Submit, Issue, Deliver, Han
 use Rattle.terms.specs.declared.Answer.{Answer}
 use Rattle.terms.specs.declared.Answer.the-variants.{Taken, SubmissionsFull, CounterFull}
 use Rattle.grammar.specs.Parser.{Read, parse}
-use Rattle.rules.specs.Table.{ag, up, sw}
 use Rattle.rules.specs.Reading.{settled}
 use Rattle.rules.specs.Play.{after, answer}
 use Rattle.rules.specs.examples.Computing.{computing}

@@ -8,6 +8,7 @@ use Rattle.number.specs.Number.{numberAt, faultNumber}
 use Rattle.number.specs.declared.Found.the-variants.{Number}
 use Rattle.grammar.specs.Parser.{parse, kitAnswer}
 use Rattle.kit.specs.Reader.{numbersIn, checkOf}
+use Rattle.terms.specs.Limits.{ag, up, sw}
 use Rattle.terms.specs.Lists.{nth}
 use Rattle.terms.specs.Mark.{markOf}
 use Rattle.terms.specs.Kit.{Kit, Entry}
@@ -17,7 +18,6 @@ use Rattle.terms.specs.declared.Condition.the-variants.{Closed}
 use Rattle.terms.specs.declared.Event.{Event}
 use Rattle.terms.specs.declared.Event.the-variants.{Submit, Issue, Deliver, Hand, Panic, Build, File}
 use Rattle.terms.specs.declared.Answer.the-variants.{Taken, NotNext, NotValid}
-use Rattle.rules.specs.Table.{ag, up, sw}
 use Rattle.rules.specs.Reading.{contentAt, settled}
 use Rattle.rules.specs.Play.{after, answer}
 use Rattle.rules.specs.examples.Computing.{computing}

@@ -9,12 +9,13 @@ use native.Mathlib.Omega.{arith}
 use lib.ListN.{length}
 use lib.Dec.{eqb}
 use borrow.Author.Tests.{eqb-true, eqb-false}
+use Rattle.terms.specs.Limits.{up}
 use Rattle.terms.specs.Lists.{nth, holds, allOf, anyBelow}
 use Rattle.terms.specs.ListLaws.{split, no-way, nth-in, nth-lt, eqb-same, allOf-at, holds-nth}
 use Rattle.terms.specs.Kit.{Kit}
 use Rattle.terms.specs.declared.Content.{Content}
 use Rattle.terms.specs.declared.Content.the-variants.{Update}
-use Rattle.rules.specs.Table.{up, actives}
+use Rattle.rules.specs.Table.{actives}
 use Rattle.rules.specs.Room.{Room, withClock, withLate}
 use Rattle.rules.specs.Reading.{secondOf, answeredAt, answered}
 use Rattle.rules.specs.laws.TableLaws.{Roles}

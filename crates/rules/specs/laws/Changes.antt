@@ -8,6 +8,7 @@ use Prim.Native.Nat.{ℕ, _≤_}
 use native.Mathlib.Omega.{arith}
 use lib.ListN.{length}
 use lib.Dec.{leb, ltb}
+use Rattle.terms.specs.Limits.{ag, sw}
 use Rattle.terms.specs.Lists.{pick}
 use Rattle.terms.specs.Kit.{Kit}
 use Rattle.terms.specs.declared.Content.{Content}
@@ -17,7 +18,6 @@ use Rattle.terms.specs.declared.Act.{Act}
 use Rattle.terms.specs.declared.Act.the-variants as Act
 use Rattle.terms.specs.declared.Decision.{Decision}
 use Rattle.terms.specs.declared.Decision.the-variants as Decision
-use Rattle.rules.specs.Table.{ag, sw}
 use Rattle.rules.specs.Room.{Room, Replica, Filing, withReplica, withHistory, remember, issue, accept}
 use Rattle.rules.specs.Reading.{isRunning}
 use Rattle.rules.specs.Outcome.{Outcome, taken}

@@ -8,11 +8,11 @@ use Prim.Native.Nat.{ℕ}
 use native.Mathlib.Omega.{arith}
 use Rattle.grammar.specs.Parser.{parse}
 use Rattle.grammar.specs.ParserLaws.{accepted-good}
+use Rattle.terms.specs.Limits.{ag, up}
 use Rattle.terms.specs.Numbers.{contentOf, kindOf}
 use Rattle.terms.specs.Kit.{Kit, Entry, GoodKit, kitNumbers}
 use Rattle.terms.specs.declared.Content.the-variants.{Commit}
 use Rattle.terms.specs.declared.Event.the-variants.{Submit}
-use Rattle.rules.specs.Table.{ag, up}
 use Rattle.rules.specs.Play.{after}
 use Rattle.rules.specs.examples.Computing.{computing}
 use Rattle.rules.specs.examples.PaperTable.{at, kitOf}

@@ -11,7 +11,7 @@ use native.Mathlib.Omega.{arith}
 use lib.ListN.{length, take}
 use lib.Dec.{eqb}
 use borrow.Author.Tests.{eqb-true, ne-eqb}
-use Rattle.terms.specs.Limits.{filedMax, nameMax}
+use Rattle.terms.specs.Limits.{ag, up, sw, nameMax, filedMax}
 use Rattle.terms.specs.Lists.{nth, isSome}
 use Rattle.terms.specs.ListLaws.{split, no-way, length-snoc, or-l, eqb-same, or-r}
 use Rattle.terms.specs.Kit.{Kit, Entry}
@@ -22,7 +22,7 @@ use Rattle.terms.specs.declared.Act.{Act}
 use Rattle.terms.specs.declared.Decision.{Decision}
 use Rattle.terms.specs.declared.Decision.the-variants as Decision
 use Rattle.terms.specs.declared.Answer.the-variants.{Taken, CannotBuild}
-use Rattle.rules.specs.Table.{ag, up, sw, switchLeader}
+use Rattle.rules.specs.Table.{switchLeader}
 use Rattle.rules.specs.Room.{Room, Replica, Filing, freshRoom, freshReplica, withReplica, issue, withHistory, hold}
 use Rattle.rules.specs.Reading.{isRunning, isFaulty}
 use Rattle.rules.specs.Clock.{tick}

@@ -6,6 +6,7 @@ use mathlib.Core.List.{List}
 use Prim.Native.Nat.{ℕ, suc}
 use lib.Dec.{eqb, leb, ltb}
 use borrow.Author.Tests.{eqb-true}
+use Rattle.terms.specs.Limits.{sw}
 use Rattle.terms.specs.Lists.{nth}
 use Rattle.terms.specs.ListLaws.{split, pick-elim, no-way}
 use Rattle.terms.specs.Kit.{Kit, Entry}
@@ -18,7 +19,6 @@ use Rattle.terms.specs.declared.Decision.{Decision}
 use Rattle.terms.specs.declared.Decision.the-variants as Decision
 use Rattle.terms.specs.declared.Answer.{Answer}
 use Rattle.terms.specs.declared.Answer.the-variants.{Taken}
-use Rattle.rules.specs.Table.{sw}
 use Rattle.rules.specs.Room.{Room, Replica, put1, withReplica, withHistory, remember, issue, withCondition, withMark, note, notePair, accept, hold}
 use Rattle.rules.specs.Reading.{isRunning}
 use Rattle.rules.specs.Outcome.{answerOf}

@@ -9,7 +9,7 @@ use native.Mathlib.Omega.{arith}
 use lib.ListN.{length, getD}
 use lib.Dec.{eqb, ltb, leb}
 use borrow.Author.Tests.{eqb-true, ne-eqb}
-use Rattle.terms.specs.Limits.{placesMax}
+use Rattle.terms.specs.Limits.{ag, up, sw, placesMax}
 use Rattle.terms.specs.Lists.{pick}
 use Rattle.terms.specs.ListLaws.{split, pick-elim, no-way, length-snoc}
 use Rattle.terms.specs.Mark.{nextMark}
@@ -20,7 +20,6 @@ use Rattle.terms.specs.declared.Act.{Act}
 use Rattle.terms.specs.declared.Act.the-variants as Act
 use Rattle.terms.specs.declared.Decision.{Decision}
 use Rattle.terms.specs.declared.Decision.the-variants as Decision
-use Rattle.rules.specs.Table.{ag, up, sw}
 use Rattle.rules.specs.Room.{Room, Replica, withClock, withLate, withReplica, issue, withHistory, remember}
 use Rattle.rules.specs.Room.{withCondition, withMark, note, notePair, accept, hold}
 use Rattle.rules.specs.laws.RoomLaws.{replica-other, counter-other}

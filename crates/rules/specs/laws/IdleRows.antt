@@ -6,9 +6,9 @@ use mathlib.Core.List.{List, [], _∷_, _++_, map}
 use Prim.Native.Nat.{ℕ, _+_}
 use native.Mathlib.Omega.{arith}
 use lib.ListN.{length}
+use Rattle.terms.specs.Limits.{ag}
 use Rattle.terms.specs.Kit.{Kit}
 use Rattle.terms.specs.declared.Event.the-variants.{Submit, Deliver}
-use Rattle.rules.specs.Table.{ag}
 use Rattle.rules.specs.Room.{Room, freshRoom}
 use Rattle.rules.specs.Play.{play, after}
 use Rattle.rules.specs.examples.Computing.{computing}

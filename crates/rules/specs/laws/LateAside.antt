@@ -5,6 +5,7 @@ use mathlib.Core.Option.{Option, none, some}
 use mathlib.Core.List.{List}
 use Prim.Native.Nat.{ℕ}
 use lib.Dec.{leb, ltb}
+use Rattle.terms.specs.Limits.{ag, sw}
 use Rattle.terms.specs.Lists.{pick, nth}
 use Rattle.terms.specs.Kit.{Kit}
 use Rattle.terms.specs.declared.Content.the-variants.{Prepare, Commit, Switch}
@@ -14,7 +15,6 @@ use Rattle.terms.specs.declared.Act.{Act}
 use Rattle.terms.specs.declared.Act.the-variants as Act
 use Rattle.terms.specs.declared.Decision.{Decision}
 use Rattle.terms.specs.declared.Decision.the-variants as Decision
-use Rattle.rules.specs.Table.{ag, sw}
 use Rattle.rules.specs.Room.{Filing, Replica, Room, withLate, withReplica, withHistory, remember, issue, accept}
 use Rattle.rules.specs.Reading.{isRunning}
 use Rattle.rules.specs.laws.ReadingLaws.{held-same}

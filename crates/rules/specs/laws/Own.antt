@@ -6,6 +6,7 @@ use mathlib.Core.Logic.{_≢_}
 use mathlib.Core.List.{List, [], _∷_, _++_}
 use Prim.Native.Nat.{ℕ}
 use lib.Dec.{eqb, leb, ltb}
+use Rattle.terms.specs.Limits.{ag, up, sw}
 use Rattle.terms.specs.Lists.{pick}
 use Rattle.terms.specs.ListLaws.{split, no-way, eqb-same}
 use Rattle.terms.specs.Kit.{Kit}
@@ -15,7 +16,6 @@ use Rattle.terms.specs.declared.Act.{Act}
 use Rattle.terms.specs.declared.Act.the-variants as Act
 use Rattle.terms.specs.declared.Decision.{Decision}
 use Rattle.terms.specs.declared.Decision.the-variants as Decision
-use Rattle.rules.specs.Table.{ag, up, sw}
 use Rattle.rules.specs.Room.{Room, Replica, put1, withReplica, issue, accept}
 use Rattle.rules.specs.Reading.{contentAt}
 use Rattle.rules.specs.laws.RoomLaws.{put-back, put-again, put-apart}

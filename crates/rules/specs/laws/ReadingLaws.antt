@@ -10,6 +10,7 @@ use native.Mathlib.Numerals.{unary-clauses}
 use lib.ListN.{getD}
 use lib.Dec.{eqb}
 use borrow.Author.Tests.{eqb-true, eqb-false, ne-eqb}
+use Rattle.terms.specs.Limits.{ag, up}
 use Rattle.terms.specs.Lists.{pick, nth, holds, Sub}
 use Rattle.terms.specs.ListLaws.{pick-elim, split, no-way, and-l, and-r, and-both, eqb-same, nth-take, take-nth, leastOver-le, leastOver-glb, leastOver-seed, leastOver-mono}
 use Rattle.terms.specs.ListLaws.{leastOver-step}
@@ -20,7 +21,7 @@ use Rattle.terms.specs.declared.Content.{Content}
 use Rattle.terms.specs.declared.ContentChoice.the-variants as ContentChoice
 use Rattle.terms.specs.declared.Condition.{Condition}
 use Rattle.terms.specs.declared.Condition.the-variants.{Running, Halted, Closed, Faulty}
-use Rattle.rules.specs.Table.{ag, up, isActive, actives}
+use Rattle.rules.specs.Table.{isActive, actives}
 use Rattle.rules.specs.Room.{Replica, Room}
 use Rattle.rules.specs.Reading.{isRunning, isClosed, isFaulty, entryAt, sameContent, isContent, valueSeen, settledCount, settledNoted, heldList}
 

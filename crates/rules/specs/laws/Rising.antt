@@ -8,6 +8,7 @@ use native.Mathlib.Omega.{arith}
 use lib.ListN.{length}
 use lib.Dec.{eqb, ltb, leb}
 use borrow.Author.Tests.{eqb-true}
+use Rattle.terms.specs.Limits.{ag, up, sw}
 use Rattle.terms.specs.ListLaws.{split, pick-elim, and-l, and-r, length-snoc}
 use Rattle.terms.specs.Kit.{Kit, Entry, GoodEvent, GoodEntry, GoodEntries}
 use Rattle.terms.specs.declared.Content.{Content}
@@ -16,7 +17,6 @@ use Rattle.terms.specs.declared.Act.{Act}
 use Rattle.terms.specs.declared.Act.the-variants as Act
 use Rattle.terms.specs.declared.Decision.{Decision}
 use Rattle.terms.specs.declared.Decision.the-variants as Decision
-use Rattle.rules.specs.Table.{ag, up, sw}
 use Rattle.rules.specs.Room.{Room, Replica, put2, withClock, withLate, withReplica, issue, withHistory, remember, withCondition, withMark, note}
 use Rattle.rules.specs.Room.{notePair, accept, hold}
 use Rattle.rules.specs.laws.RoomLaws.{accepted-by-one}

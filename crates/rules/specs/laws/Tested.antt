@@ -11,7 +11,7 @@ use native.Mathlib.Omega.{arith}
 use lib.ListN.{length}
 use lib.Dec.{eqb, leb}
 use borrow.Author.Tests.{eqb-true, eqb-false, leb-true, leb-false}
-use Rattle.terms.specs.Limits.{requestsMax, filedMax, placesMax}
+use Rattle.terms.specs.Limits.{ag, up, sw, placesMax, requestsMax, filedMax}
 use Rattle.terms.specs.Lists.{nth, holds, isSome}
 use Rattle.terms.specs.ListLaws.{pick-elim, no-way, and-l, and-r, or-l, or-r, not-was-true, not-was-false}
 use Rattle.terms.specs.Kit.{Kit, GoodEvent}
@@ -24,7 +24,7 @@ use Rattle.terms.specs.declared.Act.{Act}
 use Rattle.terms.specs.declared.Act.the-variants as Act
 use Rattle.terms.specs.declared.Decision.{Decision}
 use Rattle.terms.specs.declared.Decision.the-variants as Decision
-use Rattle.rules.specs.Table.{ag, up, sw, isActive, switchLeader}
+use Rattle.rules.specs.Table.{isActive, switchLeader}
 use Rattle.rules.specs.Room.{Room}
 use Rattle.rules.specs.Reading.{isRunning, isClosed, isFaulty, entryAt, contentAt, isContent, firstOf, secondOf}
 use Rattle.rules.specs.laws.ReadingLaws.{isContent-same}

@@ -2,6 +2,7 @@
 use Prim.Native.Nat.{_+_}
 use native.Mathlib.Omega.{arith}
 use borrow.Author.Tests.{lt-leb}
+use Rattle.terms.specs.Limits.{requestsMax}
 use Rattle.grammar.proofs.Cases.{sum-test}
 use Rattle.grammar.proofs.operands.is_e.Statement.{statement}
 use Rattle.grammar.proofs.operands.is_e.Tie as tie
@@ -10,5 +11,5 @@ pub is-e-spec : {M : Type 1} → statement M
 is-e-spec =
     tie.close
     (tie.spec
-    (λ c. sum-test (c .before .args .k) (c .before .args .n) 64 (omega arith))
-    (λ c. simp (lt-leb (c .before .args .k + c .before .args .n) 64 (omega arith))))
+    (λ c. sum-test (c .before .args .k) (c .before .args .n) requestsMax (omega arith))
+    (λ c. simp (lt-leb (c .before .args .k + c .before .args .n) requestsMax (omega arith))))
