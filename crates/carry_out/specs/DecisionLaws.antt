@@ -11,18 +11,18 @@ use lib.Dec.{leb, ltb}
 use borrow.Author.Tests.{lt-ltb, lt-leb}
 use Rattle.terms.specs.Limits.{replicasMax, ag, up, sw, names, placesMax, requestsMax, historiesMax}
 use Rattle.terms.specs.Lists.{pick, holds}
-use Rattle.terms.specs.ListLaws.{split, no-way, length-snoc, eqb-same}
+use Rattle.terms.specs.ListLaws.{split, length-snoc, eqb-same}
 use Rattle.terms.specs.Padding.{pad, set-pad}
 use Rattle.terms.specs.Mark.{nextMark, markOf}
 use Rattle.terms.specs.Kit.{Kit}
 use Rattle.terms.specs.declared.Content.{Content}
 use Rattle.terms.specs.declared.Content.the-variants as Content
-use Rattle.terms.specs.declared.Condition.{Condition}
-use Rattle.terms.specs.declared.Condition.the-variants.{Running, Halted, Closed, Faulty}
+use Rattle.terms.specs.declared.Condition.the-variants.{Halted, Closed}
 use Rattle.terms.specs.declared.Answer.{Answer}
 use Rattle.rules.specs.Room.{Room, Filing, put1, withReplica, withHistory, issue, remember, withCondition, withMark, note, notePair, accept, hold}
 use Rattle.rules.specs.Room as Rules
 use Rattle.rules.specs.Reading.{isRunning, isFaulty, settledCount, heldList, agTotal}
+use Rattle.rules.specs.laws.ReadingLaws.{running-correct}
 use Rattle.rules.specs.Submit.{afterSubmit, afterFile}
 use Rattle.rules.specs.Deliver.{settle, afterPrepare, afterCommit, afterUpdate, afterSwitch, switches, markOfPair}
 use Rattle.rules.specs.Switching.{missing, afterPanic, builtList, afterBuild, afterHand}
@@ -37,6 +37,7 @@ use Rattle.room.specs.Desk.{countedOn}
 use Rattle.rules.specs.Decide.{acted, carryOut}
 use Rattle.room.specs.Layout.{Parts, layRoom, layDesk, layRoles, layTable, layHeads, layLists}
 use Rattle.room.specs.LayoutLaws.{store-head, store-list, store-replica, keep-replica}
+use Rattle.room.specs.GoodLaws.{size-max, leader-max}
 use Rattle.room.specs.Bounds.{Bounds}
 use Rattle.room.specs.BoundsLaws.{noting-fits, noted-submissions, built-fits}
 use Rattle.carry_out.specs.Enter.{row, builtRow, submissions, filings, entered, storeRequest, fileOn, enterOn}
@@ -83,12 +84,6 @@ condition-laid : (p : Rules.Replica) → isRunning (layReplica p .condition) ≡
 unfolding layReplica
 condition-laid p = refl
 
-running-correct : (c : Condition) → isRunning c ≡ true → isFaulty c ≡ false
-running-correct Running e = refl
-running-correct Halted e = no-way (cc)
-running-correct Closed e = no-way (cc)
-running-correct Faulty e = no-way (cc)
-
 -- ---- settling
 
 settled-as : (r : Room) (known me c d : ℕ) (p : Rules.Replica) → me < replicasMax → length (p .noted) ≤ requestsMax → length (r .counter me up) < placesMax
@@ -113,12 +108,6 @@ module _ (kit : Kit) (r : Room) (known : ℕ) (b : Bounds kit r) (me : ℕ) (bel
 
   abbrev p : Rules.Replica
   p = r .replica me
-
-  table-fits : length (kit .table) ≤ replicasMax
-  table-fits = omega (arith, b .good .table-length, b .good .f-high)
-
-  leader-below : kit .leader < replicasMax
-  leader-below = omega (arith, b .good .leader-below, b .good .f-high)
 
   own-room : (name : ℕ) → isFaulty (p .condition) ≡ false → length (r .counter me name) < placesMax
   own-room name e = omega (arith, b .own-max me name e)
@@ -154,7 +143,7 @@ module _ (kit : Kit) (r : Room) (known : ℕ) (b : Bounds kit r) (me : ℕ) (bel
   done-commit sender value list sb correct =
       let q = accept p sender ag value in
       let own = agTotal r me in
-      let settled = count-laid kit table-fits leader-below in
+      let settled = count-laid kit (size-max (b .good)) (leader-max (b .good)) in
       rw (total-laid (r .counter) me ag below (omega arith), accept-laid p sender ag value sb (omega arith), settled p me own, settled q me own)
       (settled-as r known me (settledCount kit me p own) (settledCount kit me q own) q below (b .replicas me .noted-max) (own-room up correct))
 
@@ -168,7 +157,7 @@ module _ (kit : Kit) (r : Room) (known : ℕ) (b : Bounds kit r) (me : ℕ) (bel
       let own = agTotal r me in
       let content = Content.Commit request value in
       let r₁ = issue r me ag content in
-      let settled = count-laid kit table-fits leader-below in
+      let settled = count-laid kit (size-max (b .good)) (leader-max (b .good)) in
       rw (total-laid (r .counter) me ag below (omega arith), note-laid p request fits, accept-laid (note p request) sender ag value sb (omega arith))
       (rw (settled p me own, issue-laid (r .counter) me ag below (omega arith) content (own-room ag correct))
       (rw (total-laid (r₁ .counter) me ag below (omega arith), grown ag content, settled q me (suc own))
@@ -180,7 +169,7 @@ module _ (kit : Kit) (r : Room) (known : ℕ) (b : Bounds kit r) (me : ℕ) (bel
   unfolding doneOn enterOn applyOn actOn countedOn carryOut acted layRoom layRoles afterUpdate accept withReplica
   done-known-pair sender value list sb =
       let q = accept p sender up value in
-      rw (pair-laid kit table-fits leader-below p sender value me sb pairs-max)
+      rw (pair-laid kit (size-max (b .good)) (leader-max (b .good)) p sender value me sb pairs-max)
       (acted-laid r known (r .counter) me (withMark q (markOfPair (p .pairMarks) (settledCount kit me q 0))))
 
   pub done-new-pair : (sender value request mark : ℕ) (list : List ℕ) → sender < replicasMax
@@ -190,7 +179,7 @@ module _ (kit : Kit) (r : Room) (known : ℕ) (b : Bounds kit r) (me : ℕ) (bel
       let fits : length (p .noted) < requestsMax = noting-fits b me request is new in
       let q = accept (notePair p request mark) sender up value in
       let pair-fits : length (p .pairMarks) < requestsMax = omega (arith, b .replicas me .pairs-noted) in
-      rw (note-pair-laid p request mark fits pair-fits, pair-laid kit table-fits leader-below (notePair p request mark) sender value me sb (omega (arith, length-snoc (p .pairMarks) mark)))
+      rw (note-pair-laid p request mark fits pair-fits, pair-laid kit (size-max (b .good)) (leader-max (b .good)) (notePair p request mark) sender value me sb (omega (arith, length-snoc (p .pairMarks) mark)))
       (acted-laid r known (r .counter) me (withMark q (markOfPair (q .pairMarks) (settledCount kit me q 0))))
 
   -- ---- on sw
@@ -199,7 +188,7 @@ module _ (kit : Kit) (r : Room) (known : ℕ) (b : Bounds kit r) (me : ℕ) (bel
   unfolding doneOn enterOn applyOn actOn countedOn carryOut acted layRoom layRoles afterSwitch accept withReplica
   done-switch sender value list sb =
       let q = accept p sender sw value in
-      rw (switch-laid kit table-fits leader-below p sender value r sb histories-max)
+      rw (switch-laid kit (size-max (b .good)) (leader-max (b .good)) p sender value r sb histories-max)
       (split (leb (kit .f) (switches kit q))
       (λ e. rw e (acted-laid r known (r .counter) me (withMark (withCondition q Closed) (markOf (heldList r (p .held))))))
       (λ e. rw e (acted-laid r known (r .counter) me q)))

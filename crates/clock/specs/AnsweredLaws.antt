@@ -1,17 +1,17 @@
 -- Laws of Answered: read off the laid-out counters of a room within bounds, it is the rules' answered. Assumes nothing.
-use mathlib.Core.Path.{_≡_, refl, ap, _∙_, fun-ext}
-use mathlib.Core.Bool.{Bool, false}
-use mathlib.Core.List.{List, [], _∷_}
-use Prim.Native.Nat.{ℕ, suc, _+_, _≤_, _<_}
+use mathlib.Core.Path.{_≡_, ap, _∙_, fun-ext}
+use mathlib.Core.Bool.{false}
+use mathlib.Core.List.{List}
+use Prim.Native.Nat.{ℕ, suc, _≤_, _<_}
 use native.Mathlib.Omega.{arith}
 use lib.ListN.{length}
 use Rattle.terms.specs.Limits.{replicasMax, up, placesMax}
-use Rattle.terms.specs.Lists.{nth, allOf, anyBelow}
-use Rattle.terms.specs.ListLaws.{split, not-true-false, nth-lt, holds-nth, allOf-at, anyBelow-past}
-use Rattle.terms.specs.Kit.{Kit, marksActive}
+use Rattle.terms.specs.Lists.{nth, anyBelow}
+use Rattle.terms.specs.ListLaws.{not-true-false, nth-lt, holds-nth, allOf-at, anyBelow-past}
+use Rattle.terms.specs.Kit.{Kit}
 use Rattle.terms.specs.declared.Content.{Content}
-use Rattle.rules.specs.Table.{activesFrom, actives}
-use Rattle.rules.specs.laws.TableLaws.{Roles, roles}
+use Rattle.rules.specs.Table.{actives}
+use Rattle.rules.specs.laws.TableLaws.{Roles, roles, actives-ext}
 use Rattle.rules.specs.Room.{Room}
 use Rattle.rules.specs.Reading.{answeredAt, answered}
 use Rattle.rules.specs.laws.ReadingLaws.{isContent-same}
@@ -20,18 +20,12 @@ use Rattle.ledger.specs.LedgerLaws.{content-laid}
 use Rattle.replica.specs.RecordLaws.{actives-laid}
 use Rattle.room.specs.Layout.{layTable}
 use Rattle.room.specs.Bounds.{Bounds}
+use Rattle.room.specs.GoodLaws.{size-max, leader-max}
 use Rattle.clock.specs.AnsweredOn.{upValue, hasUpdated, updatedBy, answeredAtOn, answeredOn}
 
 -- an up value is what the room has there
 up-laid : (counter : ℕ → ℕ → List Content) (y i : ℕ) → y < replicasMax → length (counter y up) ≤ placesMax → upValue (layLedger counter) (layIssued counter) (suc i) y ≡ nth (counter y up) i
 up-laid counter y i small few = content-laid counter y up small (omega arith) (suc i) few
-
--- only what is said of the table's replicas counts
-all-ext : (l : List ℕ) (x : ℕ) (s t : ℕ → Bool) → ((y : ℕ) → y < x + length l → s y ≡ t y) → allOf (activesFrom l x) s ≡ allOf (activesFrom l x) t
-all-ext [] x s t e = refl
-all-ext (k ∷ l) x s t e =
-    let rest = all-ext l (suc x) s t (λ y h. e y (omega arith)) in
-    split (marksActive k) (λ a. rw (a, rest, e x (omega arith))) (λ a. rw (a, rest))
 
 -- no value that the leader has not issued answers a request, since the leader is active
 unanswered-past : (kit : Kit) → Roles kit → (r : Room) (request i : ℕ) → length (r .counter (kit .leader) up) ≤ i → answeredAt kit r request (suc i) ≡ false
@@ -43,17 +37,11 @@ unanswered-past kit role r request i past =
     absurd (omega (arith, nth-lt (r .counter (kit .leader) up) i (isContent-same (nth (r .counter (kit .leader) up) i) _ own))))
 
 module _ (kit : Kit) (r : Room) (b : Bounds kit r) where
-  pub table-small : length (kit .table) ≤ replicasMax
-  table-small = let f = b .good .f-high in omega (arith, b .good .table-length)
-
-  pub leader-small : kit .leader < replicasMax
-  leader-small = let f = b .good .f-high in omega (arith, b .good .leader-below)
-
   at-laid : (request i : ℕ) → answeredAtOn (layTable kit) (kit .leader) request (layLedger (r .counter)) (layIssued (r .counter)) i ≡ answeredAt kit r request (suc i)
   unfolding answeredAtOn updatedBy hasUpdated answeredAt actives layTable
   at-laid request i =
-      rw (actives-laid (kit .table), up-laid (r .counter) (kit .leader) i leader-small (b .counter-max (kit .leader) up))
-      (all-ext (kit .table) 0 _ _ (λ y h. rw (up-laid (r .counter) y i (omega (arith, table-small)) (b .counter-max y up))))
+      rw (actives-laid (kit .table), up-laid (r .counter) (kit .leader) i (leader-max (b .good)) (b .counter-max (kit .leader) up))
+      (actives-ext (kit .table) 0 _ _ (λ y h. rw (up-laid (r .counter) y i (omega (arith, size-max (b .good))) (b .counter-max y up))))
 
   pub answered-laid : (request : ℕ) → answeredOn (layTable kit) (kit .leader) request (layLedger (r .counter)) (layIssued (r .counter)) ≡ answered kit r request
   unfolding answeredOn answered

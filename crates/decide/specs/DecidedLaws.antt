@@ -30,9 +30,9 @@ use Rattle.room.specs.declared.Roles.{Roles}
 use Rattle.room.specs.declared.Standing.{Standing}
 use Rattle.room.specs.Layout.{Parts, layRoles, layTable, layDesk, layRoom}
 use Rattle.room.specs.Bounds.{Bounds}
-use Rattle.room.specs.GoodLaws.{concerned-below}
+use Rattle.room.specs.GoodLaws.{size-max, leader-max, switch-max, concerned-below}
 use Rattle.decide.specs.Decided.{belowSeven, concernedIn, heldIn, sightIn, decideOn}
-use Rattle.decide.specs.ValidLaws.{content-laid, leader-seven, switcher-seven, table-seven, valid-laid}
+use Rattle.decide.specs.ValidLaws.{content-laid, valid-laid}
 
 -- ---- an event decided on the player's parts
 
@@ -117,8 +117,8 @@ module _ (kit : Kit) (r : Room) (b : Bounds kit r) (known : ℕ) where
   unfolding decidedOn decideOn layRoom layDesk layRoles layReplica decide
   hand-laid p q to =
       let s = switchLeader kit in
-      let first = content-laid kit r b s ag p (switcher-seven kit r b) (omega arith) in
-      let second = content-laid kit r b s up q (switcher-seven kit r b) (omega arith) in
+      let first = content-laid kit r b s ag p (switch-max (b .good)) (omega arith) in
+      let second = content-laid kit r b s up q (switch-max (b .good)) (omega arith) in
       rw (first, second, take-pad requestsMax (r .submitted), fun-ext (λ h. valid-laid kit r b h p q), held-laid (r .replica to .held))
 
   build-laid : decided (switchLeader kit) Event.Build ≡ decide kit r Event.Build
@@ -126,8 +126,8 @@ module _ (kit : Kit) (r : Room) (b : Bounds kit r) (known : ℕ) where
   build-laid =
       let s = switchLeader kit in
       let p = r .replica s in
-      let total = total-laid (r .counter) s ag (switcher-seven kit r b) (omega arith) in
-      rw (total, settled-laid kit p (table-seven kit r b) s (agTotal r s) (leader-seven kit r b), held-laid (p .held))
+      let total = total-laid (r .counter) s ag (switch-max (b .good)) (omega arith) in
+      rw (total, settled-laid kit p (size-max (b .good)) s (agTotal r s) (leader-max (b .good)), held-laid (p .held))
 
 -- the law: a good event, decided with the record of the replica concerned, is decided as the rules decide it
 pub decided-laid : (kit : Kit) (r : Room) (known : ℕ) (event : Event) (list : List ℕ) → Bounds kit r → GoodEvent (replicas (kit .f)) event list

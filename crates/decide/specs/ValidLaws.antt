@@ -3,21 +3,21 @@ use mathlib.Core.Path.{_≡_, refl, ap}
 use mathlib.Core.Bool.{Bool, true, false, _&&_}
 use mathlib.Core.Option.{Option, none, some}
 use mathlib.Core.List.{List, [], _∷_}
-use Prim.Native.Nat.{ℕ, zero, suc, _+_, _≤_, _<_}
+use Prim.Native.Nat.{ℕ, zero, suc, _≤_, _<_}
 use native.Mathlib.Omega.{arith}
 use lib.ListN.{length, take, getD}
 use lib.Dec.{eqb}
 use borrow.Author.Tests.{le-leb, lt-leb, le-ltb}
 use Rattle.terms.specs.Limits.{replicasMax, ag, up, names, requestsMax, historiesMax}
 use Rattle.terms.specs.Lists.{nth, holds, distinct, allOf, allBelow}
-use Rattle.terms.specs.ListLaws.{split, nth-lt, no-way}
+use Rattle.terms.specs.ListLaws.{nth-lt, no-way}
 use Rattle.terms.specs.Mark.{markOf}
 use Rattle.terms.specs.Padding.{pad, length-pad, take-pad, take-pad-le, getD-pad}
-use Rattle.terms.specs.Kit.{Kit, marksActive}
+use Rattle.terms.specs.Kit.{Kit}
 use Rattle.terms.specs.declared.Content.{Content}
 use Rattle.terms.specs.declared.Content.the-variants as Content
-use Rattle.terms.specs.declared.Event.the-variants as Event
-use Rattle.rules.specs.Table.{activesFrom, actives, switchLeader}
+use Rattle.rules.specs.Table.{actives, switchLeader}
+use Rattle.rules.specs.laws.TableLaws.{actives-ext}
 use Rattle.rules.specs.Room.{Room, Filing}
 use Rattle.rules.specs.Reading.{contentAt, isContent}
 use Rattle.rules.specs.Switching.{isCommitted, isSettledBy, isValid, isValidFiling}
@@ -25,12 +25,11 @@ use Rattle.ledger.specs.LedgerLayout.{layLedger, layIssued}
 use Rattle.ledger.specs.Ledger.{contentOn}
 use Rattle.ledger.specs.LedgerLaws as Ledger
 use Rattle.replica.specs.RecordLaws.{actives-laid}
-use Rattle.rules.specs.Decide.{concerned}
 use Rattle.room.specs.Layout.{layTable, layHeads, layLists}
 use Rattle.room.specs.LayoutLaws.{head-laid, list-laid}
 use Rattle.rules.specs.agreement.Invariant.{FilingBounds}
 use Rattle.room.specs.Bounds.{Bounds}
-use Rattle.room.specs.GoodLaws.{concerned-below}
+use Rattle.room.specs.GoodLaws.{size-max, leader-max, switch-max}
 use Rattle.validity.specs.Validity.{isCommittedAt, isCommittedOn, isCommonTo, isSettledAt, isSettledOn, isListed, isBorneOut, isFiledAt, isValidOn}
 use Rattle.rules.specs.laws.ReadingLaws.{entryAt-suc}
 
@@ -39,12 +38,6 @@ use Rattle.rules.specs.laws.ReadingLaws.{entryAt-suc}
 allBelow-ext : (n : ℕ) (s t : ℕ → Bool) → ((i : ℕ) → i < n → s i ≡ t i) → allBelow n s ≡ allBelow n t
 allBelow-ext zero s t e = refl
 allBelow-ext (suc n) s t e = rw (e n (omega arith), allBelow-ext n s t (λ i h. e i (omega arith)))
-
-actives-ext : (l : List ℕ) (x : ℕ) (s t : ℕ → Bool) → ((y : ℕ) → y < x + length l → s y ≡ t y) → allOf (activesFrom l x) s ≡ allOf (activesFrom l x) t
-actives-ext [] x s t e = refl
-actives-ext (k ∷ l) x s t e =
-    let rest = actives-ext l (suc x) s t (λ y b. e y (omega arith)) in
-    split (marksActive k) (λ a. rw (a, rest, e x (omega arith))) (λ a. rw (a, rest))
 
 and-none : (b : Bool) → (b && false) ≡ false
 and-none true = refl
@@ -61,30 +54,20 @@ module _ (kit : Kit) (r : Room) (b : Bounds kit r) where
   pub content-laid : (x name value : ℕ) → x < replicasMax → name < names → contentOn (layLedger (r .counter)) (layIssued (r .counter)) x name value ≡ contentAt (r .counter x name) value
   content-laid x name value hx hn = Ledger.content-laid (r .counter) x name hx hn value (b .counter-max x name)
 
-  pub leader-seven : kit .leader < replicasMax
-  leader-seven = omega (arith, b .good .leader-below, b .good .f-high)
-
-  pub switcher-seven : switchLeader kit < replicasMax
-  unfolding concerned
-  switcher-seven = concerned-below kit Event.Build [] (b .good) refl
-
-  pub table-seven : length (kit .table) ≤ replicasMax
-  table-seven = omega (arith, b .good .table-length, b .good .f-high)
-
   -- ---- one history
 
   module _ (list : List ℕ) where
     committed-laid : (i : ℕ) → isCommittedOn (layLedger (r .counter)) (layIssued (r .counter)) (kit .leader) (switchLeader kit) (pad requestsMax list) i ≡ isCommitted kit r list (suc i)
     unfolding isCommittedOn isCommittedAt isCommitted
     committed-laid i =
-        rw (getD-pad requestsMax list i, entryAt-suc list i, content-laid (switchLeader kit) ag (suc i) switcher-seven (omega arith), content-laid (kit .leader) ag (suc i) leader-seven (omega arith))
+        rw (getD-pad requestsMax list i, entryAt-suc list i, content-laid (switchLeader kit) ag (suc i) (switch-max (b .good)) (omega arith), content-laid (kit .leader) ag (suc i) (leader-max (b .good)) (omega arith))
 
     settled-laid : (i : ℕ) → i < length list → isSettledOn (layLedger (r .counter)) (layIssued (r .counter)) (layTable kit) (kit .leader) (switchLeader kit) (pad requestsMax list) i ≡ isSettledBy kit r list (suc i)
     unfolding isSettledOn isSettledAt isSettledBy isCommonTo actives layTable
     settled-laid i h =
-        rw (getD-pad requestsMax list i, entryAt-suc list i, take-pad-le requestsMax (suc i) list h, content-laid (switchLeader kit) up (suc i) switcher-seven (omega arith), actives-laid (kit .table))
+        rw (getD-pad requestsMax list i, entryAt-suc list i, take-pad-le requestsMax (suc i) list h, content-laid (switchLeader kit) up (suc i) (switch-max (b .good)) (omega arith), actives-laid (kit .table))
         (ap (λ (t : Bool). t && isContent (nth (r .counter (switchLeader kit) up) i) (Content.Update (getD list i 0) (markOf (take (suc i) list))))
-        (actives-ext (kit .table) 0 _ _ (λ y below. rw (content-laid y ag (suc i) (omega (arith, table-seven)) (omega arith)))))
+        (actives-ext (kit .table) 0 _ _ (λ y below. rw (content-laid y ag (suc i) (omega (arith, size-max (b .good))) (omega arith)))))
 
   -- the tests of a history's numbers and list, in the rules' order
   isBorne : Filing → Bool
@@ -141,5 +124,5 @@ module _ (kit : Kit) (r : Room) (b : Bounds kit r) where
       ≡ isValidFiling kit r p q h (nth (r .histories) h)
   unfolding isValidOn
   valid-laid h p q =
-      rw (content-laid (switchLeader kit) ag p switcher-seven (omega arith), content-laid (switchLeader kit) up q switcher-seven (omega arith))
+      rw (content-laid (switchLeader kit) ag p (switch-max (b .good)) (omega arith), content-laid (switchLeader kit) up q (switch-max (b .good)) (omega arith))
       (by-filing h p q (nth (r .histories) h) refl)

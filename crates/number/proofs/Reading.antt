@@ -16,7 +16,8 @@ use lib.ListN.{length, getD, drop, drop-of-length-le}
 use lib.Seq.{drop-cons}
 use lib.Arith.{digits-lt}
 use lib.Pow.{pow-add, pow-pos, pow-mono, shl-lt}
-use Rattle.number.specs.Number.{pick, numberAt}
+use Rattle.terms.specs.Lists.{pick}
+use Rattle.number.specs.Number.{numberAt}
 use Rattle.number.specs.Groups.{under, numberIn, numberAt-in}
 use Rattle.number.specs.declared.Found.{Found}
 use Rattle.number.specs.declared.Found.the-variants.{Number, Cut, Bad}

@@ -12,7 +12,8 @@ use borrow.Author.Tests.{lt-ltb, le-ltb, le-leb, lt-leb, eq-eqb, ne-eqb}
 use lib.ListN.{length, take, drop, getD}
 use lib.Seq.{getD-take}
 use lib.Dec.{ltb, leb, eqb}
-use Rattle.number.specs.Number.{pick, goingOn, lastGroup, value, headValue, judged, numberAt}
+use Rattle.terms.specs.Lists.{pick}
+use Rattle.number.specs.Number.{goingOn, lastGroup, value, headValue, judged, numberAt}
 use Rattle.number.specs.declared.Found.{Found}
 use Rattle.number.specs.declared.Found.the-variants.{Number, Cut, Bad}
 

@@ -5,18 +5,14 @@ use Prim.Native.Nat.{ℕ, zero, suc, _+_, _*_, _/_, _%_, _^_, _<_, _≤_}
 use mathlib.Core.List.{List, [], _∷_, _++_}
 use mathlib.Core.Path.{_≡_}
 use mathlib.Core.Logic.{_⊎_}
-use mathlib.Core.Bool.{Bool, true, false, _&&_}
+use mathlib.Core.Bool.{Bool, _&&_}
 use lib.ListN.{length, take, drop, getD}
 use lib.Dec.{ltb, leb, eqb}
+use Rattle.terms.specs.Lists.{pick}
 use Rattle.number.specs.declared.Found.{Found}
 use Rattle.number.specs.declared.Found.the-variants.{Number, Cut, Bad}
 use Rattle.number.specs.declared.Wrote.{Wrote}
 use Rattle.number.specs.declared.Wrote.the-variants.{Next, NoRoom}
-
--- the first where the test is true, else the second
-abbrev pub pick : {A : Type 0} → Bool → A → A → A
-pick true a b = a
-pick false a b = b
 
 -- every element is a byte, as in each slice of bytes
 abbrev pub Bytes : List ℕ → Type 0

@@ -12,9 +12,11 @@ use native.Mathlib.Omega.{arith}
 use borrow.Author.Tests.{lt-ltb, le-ltb, le-leb, lt-leb, ne-eqb, eq-eqb}
 use lib.ListN.{length, take, drop, getD, length-append, length-drop, drop-of-length-le}
 use lib.Seq.{drop-at, take-at, length-take-le, getD-drop, drop-append-seam, drop-append-add, drop-drop}
-use Rattle.number.specs.Number.{pick, Bytes, judged, numberAt, moved, spelling, spellingIn, over, Written}
+use Rattle.terms.specs.Lists.{pick}
+use Rattle.terms.specs.ListLaws.{no-way}
+use Rattle.number.specs.Number.{Bytes, judged, numberAt, moved, spelling, spellingIn, over, Written}
 use Rattle.number.specs.Groups.{under, numberIn, numberAt-in}
-use Rattle.number.specs.ReasonLaws.{no-way, cut-exactly, number-exactly}
+use Rattle.number.specs.ReasonLaws.{cut-exactly, number-exactly}
 use Rattle.number.specs.declared.Found.{Found}
 use Rattle.number.specs.declared.Found.the-variants.{Number, Cut, Bad}
 use Rattle.number.specs.declared.Wrote.{Wrote}

@@ -12,15 +12,13 @@ use native.Mathlib.Omega.{arith}
 use borrow.Author.Tests.{lt-ltb, le-ltb, le-leb, lt-leb, ne-eqb, eq-eqb}
 use lib.Dec.{ltb, leb, eqb}
 use lib.ListN.{length, drop}
-use Rattle.number.specs.Number.{pick, goingOn, lastGroup, headValue, endsIdle, judged, numberAt, faultNumber}
+use Rattle.terms.specs.Lists.{pick}
+use Rattle.terms.specs.ListLaws.{no-way}
+use Rattle.number.specs.Number.{goingOn, lastGroup, headValue, endsIdle, judged, numberAt, faultNumber}
 use Rattle.number.specs.Number.{TooLong, EndsTooSoon, Ends, TooLarge, NotShortest, Misspelled, Whole}
 use Rattle.number.specs.Groups.{numberIn, numberAt-in}
 use Rattle.number.specs.declared.Found.{Found}
 use Rattle.number.specs.declared.Found.the-variants.{Number, Cut, Bad}
-
--- what two answers that differ give
-pub no-way : {A : Type 0} → _≡_ {A = ℕ} 0 1 → A
-no-way e = absurd (omega arith)
 
 -- two facts of numbers, both or not
 both : (a k : ℕ) → ((a ≡ 0) × (0 < k)) ⊎ (a ≡ 0 → 0 < k → ⊥)

@@ -157,13 +157,17 @@ pub leastOver-step : (ys : List ℕ) (g h : ℕ → ℕ) (d e : ℕ) → ((y : �
 leastOver-step [] g h d e f k = k
 leastOver-step (x ∷ xs) g h d e f k = omega (arith, f x, leastOver-step xs g h d e f k)
 
-pub holds-snoc : (r a : ℕ) (l : List ℕ) → holds r l ≡ true → holds r (l ++ (a ∷ [])) ≡ true
-holds-snoc r a [] e = no-way (cc)
-holds-snoc r a (x ∷ xs) e = or-mono (eqb r x) e (holds-snoc r a xs)
+pub holds-snoc : (r : ℕ) (l : List ℕ) (a : ℕ) → holds r (l ++ (a ∷ [])) ≡ (holds r l || eqb r a)
+holds-snoc r [] a = or-none (eqb r a)
   where
-    or-mono : (t : Bool) → (t || holds r xs) ≡ true → (holds r xs ≡ true → holds r (xs ++ (a ∷ [])) ≡ true) → (t || holds r (xs ++ (a ∷ []))) ≡ true
-    or-mono true h f = refl
-    or-mono false h f = f h
+    or-none : (t : Bool) → (t || false) ≡ t
+    or-none true = refl
+    or-none false = refl
+holds-snoc r (x ∷ xs) a = rw (holds-snoc r xs a) (or-assoc (eqb r x))
+  where
+    or-assoc : (t : Bool) → (t || (holds r xs || eqb r a)) ≡ ((t || holds r xs) || eqb r a)
+    or-assoc true = refl
+    or-assoc false = refl
 
 pub holds-at : (l : List ℕ) (i r : ℕ) → nth l i ≡ some r → holds r l ≡ true
 holds-at [] i r e = no-way (cc)

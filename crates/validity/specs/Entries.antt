@@ -9,7 +9,7 @@ use lib.Seq.{take-suc}
 use lib.Dec.{eqb}
 use borrow.Author.Tests.{eqb-true, eqb-false, eq-eqb, ne-eqb}
 use Rattle.terms.specs.Lists.{holds, distinct, allOf, allBelow}
-use Rattle.terms.specs.ListLaws.{split}
+use Rattle.terms.specs.ListLaws.{split, holds-snoc}
 
 -- ---- tests in another order
 
@@ -50,18 +50,6 @@ allBelow-not (suc n) t i h e =
 allOf-snoc : (l : List ℕ) (a : ℕ) (t : ℕ → Bool) → allOf (l ++ (a ∷ [])) t ≡ (t a && allOf l t)
 allOf-snoc [] a t = refl
 allOf-snoc (x ∷ xs) a t = rw (allOf-snoc xs a t) (and-swap (t x) (t a) (allOf xs t))
-
-holds-snoc : (r : ℕ) (l : List ℕ) (a : ℕ) → holds r (l ++ (a ∷ [])) ≡ (holds r l || eqb r a)
-holds-snoc r [] a = or-none (eqb r a)
-  where
-    or-none : (t : Bool) → (t || false) ≡ t
-    or-none true = refl
-    or-none false = refl
-holds-snoc r (x ∷ xs) a = rw (holds-snoc r xs a) (or-assoc (eqb r x))
-  where
-    or-assoc : (t : Bool) → (t || (holds r xs || eqb r a)) ≡ ((t || holds r xs) || eqb r a)
-    or-assoc true = refl
-    or-assoc false = refl
 
 distinct-snoc : (l : List ℕ) (a : ℕ) → distinct (l ++ (a ∷ [])) ≡ (not (holds a l) && distinct l)
 distinct-snoc [] a = refl

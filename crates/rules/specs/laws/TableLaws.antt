@@ -1,14 +1,14 @@
 -- Laws of Table: what a good kit's table says of the leader, the switch leader and the active replicas. Assumes nothing.
-use mathlib.Core.Path.{_≡_, _∙_}
-use mathlib.Core.Bool.{true, false, or-true}
+use mathlib.Core.Path.{_≡_, refl, _∙_}
+use mathlib.Core.Bool.{Bool, true, false, or-true}
 use mathlib.Core.Logic.{_≢_}
 use mathlib.Core.List.{List, [], _∷_}
 use Prim.Native.Nat.{ℕ, zero, suc, _+_, _≤_, _<_}
 use native.Mathlib.Omega.{arith}
-use lib.ListN.{getD}
+use lib.ListN.{length, getD}
 use lib.Dec.{eqb}
 use borrow.Author.Tests.{eqb-true, eqb-false, ne-eqb}
-use Rattle.terms.specs.Lists.{countOf, holds}
+use Rattle.terms.specs.Lists.{allOf, countOf, holds}
 use Rattle.terms.specs.ListLaws.{split, pick-elim, no-way, eqb-same}
 use Rattle.terms.specs.Kit.{Kit, GoodKit, marksActive, marksFaulty}
 use Rattle.rules.specs.Table.{isActive, isMarkedFaulty, activesFrom, actives, firstBut, switchLeader}
@@ -109,3 +109,11 @@ roles kit good =
     first : (holds (firstBut (kit .leader) (activesFrom (kit .table) 0)) (activesFrom (kit .table) 0) ≡ true)
         × (firstBut (kit .leader) (activesFrom (kit .table) 0) ≢ kit .leader)
     first = firstBut-other (kit .leader) (activesFrom (kit .table) 0) (other .0) (listed (other .0) (other .1)) (other .2)
+
+-- only what is said of the table's replicas counts
+pub actives-ext : (l : List ℕ) (x : ℕ) (s t : ℕ → Bool) → ((y : ℕ) → y < x + length l → s y ≡ t y)
+    → allOf (activesFrom l x) s ≡ allOf (activesFrom l x) t
+actives-ext [] x s t e = refl
+actives-ext (k ∷ l) x s t e =
+    let rest = actives-ext l (suc x) s t (λ y h. e y (omega arith)) in
+    split (marksActive k) (λ a. rw (a, rest, e x (omega arith))) (λ a. rw (a, rest))
