@@ -11,7 +11,8 @@ use Rattle.terms.specs.Lists.{nth}
 use Rattle.terms.specs.Kit.{Kit, Entry, GoodKit, kitNumbers}
 use Rattle.rules.specs.Play.{after, answer}
 use Rattle.rules.specs.laws.Instead.{replace, first-stands, second-stands, each-none, each-first}
-use Rattle.rules.specs.laws.Order.{Delivery, delivery, isIssued}
+use Rattle.rules.specs.Deliver.{Delivery}
+use Rattle.rules.specs.laws.Order.{delivery, isIssued}
 use Rattle.rules.specs.laws.Exchange.{Exchanged, exchange, exchanged-good, PlaysExchanged, plays-exchanged}
 use Rattle.kit.specs.Spelling.{Words, Spells}
 use Rattle.kit.specs.SpellingLaws.{words-cons}
