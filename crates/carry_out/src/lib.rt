@@ -171,7 +171,7 @@ fn lead(p: Replica, request: u32, me: usize, ledger: &mut Ledger, issued: &mut I
     match condition {
         Condition::Running => {
             ledger::issue(ledger, issued, me, AG, Content::Prepare(request));
-            p.note(request)
+            in_place::noted(p, request)
         }
         Condition::Halted => p,
         Condition::Closed => p,
@@ -210,7 +210,7 @@ fn prepare(
 {
     let before = p.accepted;
     let c = replica::settled_count(&before, table, leader, me, ledger::total(issued, me, AG));
-    let noting = p.note(request);
+    let noting = in_place::noted(p, request);
     let accepting = noting.accept(sender, AG, value);
     ledger::issue(ledger, issued, me, AG, Content::Commit(request, value));
     let after = accepting.accepted;
@@ -308,7 +308,7 @@ fn accept_switch(
         return accepting;
     }
     let mark = held_mark(accepting.holding, accepting.held, heads, lists);
-    accepting.close(mark)
+    in_place::closed(accepting, mark)
 }
 
 // The receiver of a history holds it and issues SWITCH of it on sw.
@@ -316,7 +316,7 @@ fn hand(p: Replica, history: u32, me: usize, ledger: &mut Ledger, issued: &mut I
     ensures { λ r. ⌜ applied r (book (now (ledger .exit)) (now (issued .exit))) ≡ handOn p history me (book (now (ledger .entry)) (now (issued .entry))) ⌝ }
 {
     ledger::issue(ledger, issued, me, SW, Content::Switch(history));
-    p.hold(history)
+    in_place::held(p, history)
 }
 
 // The switch leader issues HISTORY of the h-th history on ag and up, holds it, and issues SWITCH of it on sw.

@@ -1,3 +1,3 @@
+pub mod By
 pub mod Lent
-pub mod Passed
 pub mod Thin

@@ -1,48 +1,16 @@
-// Records changed where they stand. A thin function is lent one replica's record by `&mut`, calls the by-value step and stores what it gives.
-// The player goes through `applied`, which lends the record of the replica concerned to `apply_in`.
+// Records changed where they stand. A thin function is lent one replica's record by `&mut`, calls the by-value step of crate `replica` and stores
+// what it gives; over it stands a function of a record that is given, which lends it.
 ghost use mathlib.Core.Path.{_≡_};
-ghost use Rattle.ledger.specs.Ledger.{book};
-ghost use Rattle.replica.specs.Record.{holdOn, closeOn};
-ghost use Rattle.carry_out.specs.Apply.{applied, applyOn};
-use ledger::Issued;
-use ledger::Ledger;
+ghost use Rattle.replica.specs.Record.{noteOn, holdOn, closeOn};
 use replica::Replica;
-use room::Desk;
-use room::Roles;
-use terms::Decision;
-use terms::Heads;
-use terms::Lists;
-use terms::Table;
 
 // ---- a record that is lent
 
-// What a decision does to the record of the replica concerned, `me`, and to the counters.
-pub fn apply_in(
-    r: &mut Replica,
-    decision: Decision,
-    desk: Desk,
-    me: usize,
-    roles: Roles,
-    table: &Table,
-    heads: &Heads,
-    lists: &Lists,
-    ledger: &mut Ledger,
-    issued: &mut Issued,
-)
-    ensures { λ _. ⌜ applied (now (r .exit)) (book (now (ledger .exit)) (now (issued .exit))) ≡ applyOn (now (r .entry)) decision desk me roles (now (table .entry)) (now (heads .entry)) (now (lists .entry)) (book (now (ledger .entry)) (now (issued .entry))) ⌝ }
+// Notes a request.
+pub fn note_in(r: &mut Replica, request: u32)
+    ensures { λ _. ⌜ now (r .exit) ≡ noteOn (now (r .entry)) request ⌝ }
 {
-    *r = carry_out::apply(
-        *r,
-        decision,
-        desk,
-        me,
-        roles,
-        table,
-        heads,
-        lists,
-        ledger,
-        issued,
-    );
+    *r = r.note(request);
 }
 
 // Holds a handed history.
@@ -59,35 +27,31 @@ pub fn close_in(r: &mut Replica, mark: u32)
     *r = r.close(mark);
 }
 
-// ---- a record that is given, for the player's loop, which cannot lend one itself
+// ---- a record that is given
 
-// The record with the decision applied: it stands here and is lent to `apply_in`.
-pub fn applied(
-    p: Replica,
-    decision: Decision,
-    desk: Desk,
-    me: usize,
-    roles: Roles,
-    table: &Table,
-    heads: &Heads,
-    lists: &Lists,
-    ledger: &mut Ledger,
-    issued: &mut Issued,
-) -> Replica
-    ensures { λ r. ⌜ applied r (book (now (ledger .exit)) (now (issued .exit))) ≡ applyOn p decision desk me roles (now (table .entry)) (now (heads .entry)) (now (lists .entry)) (book (now (ledger .entry)) (now (issued .entry))) ⌝ }
+// The record with a request noted.
+pub fn noted(p: Replica, request: u32) -> Replica
+    ensures { λ r. ⌜ r ≡ noteOn p request ⌝ }
 {
     let mut record = p;
-    apply_in(
-        &mut record,
-        decision,
-        desk,
-        me,
-        roles,
-        table,
-        heads,
-        lists,
-        ledger,
-        issued,
-    );
+    note_in(&mut record, request);
+    record
+}
+
+// The record with a history held.
+pub fn held(p: Replica, history: u32) -> Replica
+    ensures { λ r. ⌜ r ≡ holdOn p history ⌝ }
+{
+    let mut record = p;
+    hold_in(&mut record, history);
+    record
+}
+
+// The record closed.
+pub fn closed(p: Replica, mark: u32) -> Replica
+    ensures { λ r. ⌜ r ≡ closeOn p mark ⌝ }
+{
+    let mut record = p;
+    close_in(&mut record, mark);
     record
 }

@@ -98,7 +98,7 @@ fn play_from(
             lists,
         );
         if carry_out::moves(decision) {
-            let q = in_place::applied(
+            let q = carry_out::apply(
                 p,
                 decision,
                 desk,

@@ -10,7 +10,7 @@ lead-spec =
     tie.close
     (tie.spec
     (λ c. search needs) (λ c κs. search needs) (λ c κs. search needs) (λ c. search needs) (λ c. search needs) (λ c. search needs)
-    (λ c. rw (c .note .ensures, ← c .before .issue .ensures, c .before .before .before .before .enum-told .given .1))
+    (λ c. rw (c .noted .ensures, ← c .before .issue .ensures, c .before .before .before .before .enum-told .given .1))
     (λ c. rw (c .enum-told2 .given .1))
     (λ c. rw (c .enum-told3 .given .1))
     (λ c. rw (c .enum-told4 .given .1)))

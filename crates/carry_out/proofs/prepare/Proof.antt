@@ -11,4 +11,4 @@ prepare-spec =
     (tie.spec
     (λ c κs. search needs) (λ c κs. search needs) (λ c κs. search needs) (λ c κs. search needs) (λ c κs. search needs)
     (λ c κs. search needs) (λ c κs. search needs) (λ c κs. search needs)
-    (λ c. rw (← c .before .before .before .before .before .before .before .before .before .before .before .before .before .before .total .ensures, ← c .before .before .before .before .before .before .before .before .before .before .before .before .before .settled-count .ensures, ← c .before .before .before .before .before .before .before .before .before .before .before .before .note .ensures, ← c .before .before .before .before .before .before .before .before .before .before .before .accept .ensures, ← c .before .before .before .before .before .before .before .before .issue .ensures, ← c .before .before .before .before .total2 .ensures, ← c .before .before .before .settled-count2 .ensures, ← c .settle .ensures)))
+    (λ c. rw (← c .before .before .before .before .before .before .before .before .before .before .before .before .before .before .total .ensures, ← c .before .before .before .before .before .before .before .before .before .before .before .before .before .settled-count .ensures, ← c .before .before .before .before .before .before .before .before .before .before .before .before .noted .ensures, ← c .before .before .before .before .before .before .before .before .before .before .before .accept .ensures, ← c .before .before .before .before .before .before .before .before .issue .ensures, ← c .before .before .before .before .total2 .ensures, ← c .before .before .before .settled-count2 .ensures, ← c .settle .ensures)))
