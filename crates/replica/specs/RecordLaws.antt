@@ -4,14 +4,14 @@ use mathlib.Core.Bool.{Bool, true, false}
 use mathlib.Core.List.{List, [], _∷_, _++_}
 use Prim.Native.Nat.{ℕ, zero, suc, _+_, _-_, _≤_, _<_}
 use native.Mathlib.Omega.{arith}
-use lib.ListN.{length, take, replicate}
+use lib.ListN.{length, replicate}
 use lib.Dec.{eqb}
 use borrow.Author.Tests.{le-ltb, le-leb, lt-leb, ne-eqb, eqb-true, eqb-false}
 use Rattle.terms.specs.Limits.{replicasMax, up, sw, names, requestsMax}
 use Rattle.terms.specs.Lists.{pick, leastOver, countBelow}
 use Rattle.terms.specs.ListLaws.{split, no-way, length-snoc}
 use Rattle.terms.specs.Kit.{Kit, marksActive}
-use Rattle.terms.specs.Padding.{pad, take-pad, getD-pad, set-pad, pad-nil}
+use Rattle.terms.specs.Padding.{pad, getD-pad, set-pad, pad-nil}
 use Rattle.terms.specs.Tabulate.{getD-grid, set-grid, grid-constant}
 use Rattle.terms.specs.declared.Condition.{Condition}
 use Rattle.terms.specs.declared.Condition.the-variants.{Running, Halted, Closed, Faulty}
@@ -71,10 +71,6 @@ module _ (p : Rules.Replica) where
       by-condition Faulty e = no-way (cc)
 
   -- ---- what is read
-
-  pub noted-laid : take (layReplica p .count) (layReplica p .noted) ≡ p .noted
-  unfolding layReplica
-  noted-laid = take-pad requestsMax (p .noted)
 
   pub accepted-laid : (s m : ℕ) → s < replicasMax → m < names → acceptedIn (layReplica p .accepted) s m ≡ p .accepted s m
   unfolding layReplica acceptedIn

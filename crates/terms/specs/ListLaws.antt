@@ -1,4 +1,5 @@
--- Laws of Lists: tests taken apart, elements by place, prefixes, counting, the least. Assumes nothing.
+-- Laws of Lists. In order: tests taken apart (`split`, `no-way`, `and-l`), elements by place and prefixes (`nth-…`, `sub-prefix`), tests below a bound,
+-- the least (`leastOver-…`), lists that hold a number, tests of every element, lists in which nothing stands twice (`once-…`). Assumes nothing.
 use mathlib.Core.Path.{_≡_, refl, sym, ap, _∙_}
 use mathlib.Core.Bool.{Bool, true, false, not, _&&_, _||_, or-true}
 use mathlib.Core.Logic.{_⊎_, inl, inr, ⊎-elim, _≢_}
@@ -242,7 +243,9 @@ once-append l m ol om d i j a p q =
 
 pub distinct-once : (l : List ℕ) → distinct l ≡ true → Once l
 distinct-once [] e = λ i j a p q. no-way (cc)
-distinct-once (x ∷ xs) e = once-cons x xs (not-was-true (holds x xs) (and-l (not (holds x xs)) (distinct xs) e)) (distinct-once xs (and-r (not (holds x xs)) (distinct xs) e))
+distinct-once (x ∷ xs) e =
+    once-cons x xs (not-was-true (holds x xs) (and-l (not (holds x xs)) (distinct xs) e))
+    (distinct-once xs (and-r (not (holds x xs)) (distinct xs) e))
 
 pub once-distinct : (l : List ℕ) → Once l → distinct l ≡ true
 once-distinct [] o = refl

@@ -89,7 +89,8 @@ module _ {ℓ} {A : Type ℓ} where
   grid-constant a = tab-constant counters a
 
 -- the same where every row is made of a value by h
-pub set-grid-of {ℓ ℓ′} : {A : Type ℓ} {B : Type ℓ′} (h : A → B) (g : ℕ → ℕ → A) (x m : ℕ) (v : A) → m < names → set (grid (λ y n. h (g y n))) (names * x + m) (h v) ≡ grid (λ y n. h (pick (eqb n m && eqb y x) v (g y n)))
+pub set-grid-of {ℓ ℓ′} : {A : Type ℓ} {B : Type ℓ′} (h : A → B) (g : ℕ → ℕ → A) (x m : ℕ) (v : A) → m < names
+    → set (grid (λ y n. h (g y n))) (names * x + m) (h v) ≡ grid (λ y n. h (pick (eqb n m && eqb y x) v (g y n)))
 set-grid-of h g x m v hm =
     set-grid (λ y n. h (g y n)) x m (h v) hm
     ∙ ap grid (fun-ext (λ y. fun-ext (λ n. split (eqb n m && eqb y x) (λ t. rw t) (λ t. rw t))))

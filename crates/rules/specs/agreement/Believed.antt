@@ -1,7 +1,7 @@
 -- A correct switch leader is believed. What it built by event 7 is taken, with its own two values, by every halted replica that holds no history, the
 -- builder excepted, at that moment and at all later ones; and where the switch leader is correct no other history is ever held by a correct
 -- replica. Moments and places of events are counted from 0. What it does not say: that the history is handed to anybody, or that anybody closes.
--- Assumes nothing.
+-- In order: the statement (`Believed`, `SwitchLeaderBelieved`); its first half, for one built history; its second half, and the theorem. Assumes nothing.
 use mathlib.Core.Path.{_≡_, refl, sym, ap, _∙_}
 use mathlib.Core.Bool.{true, false}
 use mathlib.Core.Logic.{_≢_}
@@ -168,7 +168,8 @@ module _ (kit : Kit) (good : GoodKit kit) {m number : ℕ} {filing : Filing} (b 
       passed-number : isValidFiling kit r p q h (nth (r .histories) h) ≡ true → h ≡ number
       passed-number passed =
           backed-one kit r h number (validFiling-backed kit r a p q h (nth (r .histories) h) refl passed)
-          (sound-backed kit (grows .filings _ _ filed-now) (a .histories-fit number filing (grows .filings _ _ filed-now) .k-list) (sound-grows kit grows sound-now))
+          (sound-backed kit (grows .filings _ _ filed-now) (a .histories-fit number filing (grows .filings _ _ filed-now) .k-list)
+          (sound-grows kit grows sound-now))
 
       passed-values : isValidFiling kit r p q h (nth (r .histories) h) ≡ true → (p ≡ suc (filing .k)) × (q ≡ suc (filing .j))
       unfolding isValid

@@ -1,4 +1,5 @@
--- A delivery on ag, up or sw keeps the invariant, and no list of settled requests loses anything. Assumes nothing.
+-- A delivery on ag, up or sw keeps the invariant, and no list of settled requests loses anything. In order: settling; ag from the leader, ag from
+-- another active replica, up, sw; and for each what was tested gives what it asks (`next-prepared` … `next-switched`). Assumes nothing.
 use mathlib.Core.Path.{_≡_, refl, sym, ap, _∙_}
 use mathlib.Core.Bool.{true, false, not, _&&_}
 use mathlib.Core.Logic.{_≢_}

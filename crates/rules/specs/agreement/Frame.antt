@@ -1,4 +1,6 @@
--- One replica moves and the others stand: from its part of the invariant to the whole room, and what one event gives. Assumes nothing.
+-- One replica moves and the others stand: from its part of the invariant to the whole room, and what one event gives. In order: a room in which one
+-- replica has moved (`Moved`), change by change; what one event makes of a room (`Next`), and how to show it of a replica that goes on, closes or stands
+-- still. Assumes nothing.
 use mathlib.Core.Path.{_≡_, refl, sym, ap, _∙_}
 use mathlib.Core.Bool.{true, false}
 use mathlib.Core.Logic.{⊎-elim, _≢_}

@@ -1,4 +1,5 @@
 -- Building a history and handing it over keep the invariant: what a correct switch leader builds is sound, and what a correct replica holds is backed.
+-- In order: the hand (what a valid history rests on, `valid-backed`; `next-hand`); the build (its list, `missing-at`; `built-sound`; `next-build`).
 -- Assumes nothing.
 use mathlib.Core.Path.{_≡_, refl, sym, ap, _∙_}
 use mathlib.Core.Bool.{true, false, or-true}

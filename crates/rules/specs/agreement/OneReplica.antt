@@ -1,4 +1,6 @@
--- One replica's part of the invariant through each change of its record and of its own ag and up lists. Assumes nothing.
+-- One replica's part of the invariant through each change of its record and of its own ag and up lists. In order: an active replica notes, prepares,
+-- commits, submits, settles, holds, builds (`active-…`); the part that all have, as a replica halts, holds and closes (`common-…`); a passive replica
+-- (`passive-…`). Assumes nothing.
 use mathlib.Core.Path.{_≡_, refl, sym, ap, _∙_}
 use mathlib.Core.Bool.{true, false}
 use mathlib.Core.Logic.{⊎-elim, _≢_}

@@ -1,4 +1,5 @@
--- The printed play, and the cases that are easy to get wrong: each row plays a kit of its own, under one theorem. Assumes nothing.
+-- The printed play, and the cases that are easy to get wrong: each row plays a kit of its own, under one theorem. In order: the kits, the rows, their
+-- proof. Assumes nothing.
 use mathlib.Core.Path.{_≡_, refl}
 use mathlib.Core.Option.{Option, none, some}
 use mathlib.Core.List.{List, [], _∷_, _++_}

@@ -84,7 +84,9 @@ pub record PaperTable : Type 0 where
   -- FF FF FF FF 10 is 2
   pub p2 : faultNumber (numberAt (0xff ∷ 0xff ∷ 0xff ∷ 0xff ∷ 0x10 ∷ []) 0) ≡ 2
   -- FF FF FF 7F is 2^28-1, a good patience
-  pub p3 : (numberAt (0xff ∷ 0xff ∷ 0xff ∷ 0x7f ∷ []) 0 ≡ Number (2 ^ 28 - 1) 4) × (kitNumberOf (checkOf (waiting (0xff ∷ 0xff ∷ 0xff ∷ 0x7f ∷ []) (0 ∷ []))) ≡ 0)
+  pub p3
+      : (numberAt (0xff ∷ 0xff ∷ 0xff ∷ 0x7f ∷ []) 0 ≡ Number (2 ^ 28 - 1) 4)
+      × (kitNumberOf (checkOf (waiting (0xff ∷ 0xff ∷ 0xff ∷ 0x7f ∷ []) (0 ∷ []))) ≡ 0)
   -- 80 80 80 80 01 as patience is 3, as gap 4
   pub p4
       : (numberAt (0x80 ∷ 0x80 ∷ 0x80 ∷ 0x80 ∷ 0x01 ∷ []) 0 ≡ Number (2 ^ 28) 5)

@@ -102,7 +102,11 @@ module _ {n : ℕ} {kit kit₁ : Kit} (x : Exchanged n kit kit₁) where
   first-goes : answer kit₁ (suc n) ≡ answer kit n
   first-goes =
       answer-two (back (x .instead))
-      ∙ rw (same-here, same-step (after kit n) (delivery (x .gap) (x .second)), same-step (step kit (after kit n) (delivery (x .gap) (x .second)) .room) (delivery 0 (x .first)))
+      ∙ rw (
+        same-here,
+        same-step (after kit n) (delivery (x .gap) (x .second)),
+        same-step (step kit (after kit n) (delivery (x .gap) (x .second)) .room) (delivery 0 (x .first)),
+      )
       (ap some (free .answer-a))
       ∙ sym (answer-one (x .instead))
 

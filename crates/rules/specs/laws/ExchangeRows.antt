@@ -67,8 +67,10 @@ pub record ExchangeRows : Type 0 where
       × (answers (fiveThen (delivery 0 (cert 1 ag 1 2) ∷ delivery 0 (cert 0 ag 1 1) ∷ [])) 4 ≡ 0 ∷ 0 ∷ 15 ∷ 0 ∷ [])
   -- both to one receiver: 0 0, exchanged 19 0
   pub one-receiver
-      : (answers (threeThen (at 0 (Submit 5) ∷ delivery 0 (cert 0 ag 2 1) ∷ delivery 0 (cert 1 ag 1 0) ∷ delivery 0 (cert 1 ag 2 0) ∷ [])) 6 ≡ 0 ∷ 0 ∷ 0 ∷ 0 ∷ 0 ∷ 0 ∷ [])
-      × (answers (threeThen (at 0 (Submit 5) ∷ delivery 0 (cert 0 ag 2 1) ∷ delivery 0 (cert 1 ag 2 0) ∷ delivery 0 (cert 1 ag 1 0) ∷ [])) 6 ≡ 0 ∷ 0 ∷ 0 ∷ 0 ∷ 19 ∷ 0 ∷ [])
+      : (answers (threeThen (at 0 (Submit 5) ∷ delivery 0 (cert 0 ag 2 1) ∷ delivery 0 (cert 1 ag 1 0) ∷ delivery 0 (cert 1 ag 2 0) ∷ [])) 6
+      ≡ 0 ∷ 0 ∷ 0 ∷ 0 ∷ 0 ∷ 0 ∷ [])
+      × (answers (threeThen (at 0 (Submit 5) ∷ delivery 0 (cert 0 ag 2 1) ∷ delivery 0 (cert 1 ag 2 0) ∷ delivery 0 (cert 1 ag 1 0) ∷ [])) 6
+      ≡ 0 ∷ 0 ∷ 0 ∷ 0 ∷ 19 ∷ 0 ∷ [])
   -- the second has a gap: late none, exchanged late 10
   pub second-gap
       : (after (threeThen (delivery 9 (cert 1 ag 1 0) ∷ delivery 1 (cert 1 up 1 2) ∷ [])) 4 .late ≡ none)

@@ -1,5 +1,6 @@
 -- How many histories are filed: seven by events 8, one by event 7, which is taken once at the most; a correct replica that holds none has issued
--- nothing on sw, and one that holds one has issued once; a faulty replica's counters have 96 places. In every play of any kit.
+-- nothing on sw, and one that holds one has issued once; a faulty replica's counters have 96 places. In every play of any kit. In order: what is said
+-- of a room (`FilesFew`), filing, holding and building, every event, every moment (`files-few`); then event 7: when it is taken, and once (`build-once`).
 -- Assumes nothing.
 use mathlib.Core.Path.{_≡_, refl, sym, ap, _∙_}
 use mathlib.Core.Bool.{true, false, and-false, or-true, _||_}

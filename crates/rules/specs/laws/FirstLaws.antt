@@ -36,7 +36,8 @@ use Rattle.rules.specs.agreement.Sizes.{Bounds, bounds, settles-one}
 pub record FirstLaws (kit : Kit) : Type 0 where
   -- an event with another answer than Taken leaves the ticked room
   pub refused
-      : (n : ℕ) (e : Entry) (a : Answer) → nth (kit .events) n ≡ some e → answer kit n ≡ some a → a ≢ Taken → after kit (suc n) ≡ tick kit (after kit n) (e .gap)
+      : (n : ℕ) (e : Entry) (a : Answer) → nth (kit .events) n ≡ some e → answer kit n ≡ some a → a ≢ Taken
+      → after kit (suc n) ≡ tick kit (after kit n) (e .gap)
   -- and so changes nothing but the clock and the late tick
   pub refused-only
       : (n : ℕ) (e : Entry) (a : Answer) → nth (kit .events) n ≡ some e → answer kit n ≡ some a → a ≢ Taken → Ticked (after kit n) (e .gap) (after kit (suc n))

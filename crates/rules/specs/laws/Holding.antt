@@ -1,4 +1,6 @@
--- What stays with a replica once it has it: a held history, a closed condition, being faulty. In every play of any kit. Assumes nothing.
+-- What stays with a replica once it has it: a held history, a closed condition, being faulty. In every play of any kit. In order: what stays
+-- (`Keeps`); events other than filing, building and handing over (`Calm`), change by change, and every act of a replica (`act-holds`); every event
+-- (`event-keeps`) and every two moments (`after-keeps`). Assumes nothing.
 use mathlib.Core.Path.{_≡_, refl, sym, ap, _∙_}
 use mathlib.Core.Bool.{true, false, _&&_}
 use mathlib.Core.Logic.{_≢_}
@@ -88,9 +90,6 @@ calm-same ep ec eh ef =
       others-same = λ x n e l. rw ec;
       faulty-few = λ f x n d. rw ec (f x n (rw ep at d));
     }
-
-calm-refl : (r : Room) → Calm r r
-calm-refl r = calm-same refl refl refl refl
 
 calm-trans : {a b c : Room} → Calm a b → Calm b c → Calm a c
 calm-trans f g =

@@ -1,5 +1,6 @@
 -- Some events of a kit replaced by others: up to them the play is the same; behind them it is the same, if the two stretches leave the same room;
--- and the kit with the others is a good kit if they are good events and not too many. Places are counted from 0. Assumes nothing.
+-- and the kit with the others is a good kit if they are good events and not too many. Places are counted from 0. In order: the relation (`Instead`);
+-- that no event looks at the kit's other events; a play seen from a stretch of it; the two plays; the kit itself (`instead-good`). Assumes nothing.
 use mathlib.Core.Path.{_≡_, refl, sym, ap, _∙_, subst}
 use mathlib.Core.Logic.{⊎-elim}
 use mathlib.Core.Option.{Option, none, some}
@@ -136,7 +137,8 @@ module _ (kit : Kit) (before stretch later : List Entry) where
       : (m : ℕ) → after through (length before + (length stretch + m)) ≡ play kit (play kit (play kit (freshRoom kit) before) stretch) (take m later)
   room-from m =
       after-other kit _ _
-      ∙ ap (play kit (freshRoom kit)) (take-append-add before (stretch ++ later) (length stretch + m) ∙ ap (λ (z : List Entry). before ++ z) (take-append-add stretch later m))
+      ∙ ap (play kit (freshRoom kit))
+      (take-append-add before (stretch ++ later) (length stretch + m) ∙ ap (λ (z : List Entry). before ++ z) (take-append-add stretch later m))
       ∙ play-append kit (freshRoom kit) before (stretch ++ take m later)
       ∙ play-append kit (play kit (freshRoom kit) before) stretch (take m later)
 
@@ -226,7 +228,13 @@ module _ {n : ℕ} {old new : List Entry} {kit kit₁ : Kit} (i : Instead n old 
   unfolding withEvents sameTable
   instead-length =
       rw (i .is, i .was)
-      (omega (arith, length-append (i .before) (new ++ i .later), length-append new (i .later), length-append (i .before) (old ++ i .later), length-append old (i .later)))
+      (omega (
+        arith,
+        length-append (i .before) (new ++ i .later),
+        length-append new (i .later),
+        length-append (i .before) (old ++ i .later),
+        length-append old (i .later),
+      ))
 
   -- what stands before and behind the stretch stood in the kit
   stood-before : (j : ℕ) (e : Entry) → nth (i .before) j ≡ some e → nth (kit .events) j ≡ some e

@@ -84,7 +84,8 @@ content-stays {r} {r₁} g d = stays (d .value)
     stays (suc i) there = bound i (nth (r .counter (d .sender) (d .name)) i) refl there
 
 -- after another receiver's delivery b, a delivery a looks at the same as before it
-sees-same : (kit : Kit) (r : Room) (a b : Delivery) → a .to ≢ b .to → isIssued r a ≡ true → SeesSame (a .sender) (a .name) (a .value) (a .to) r (deliver kit r b .room)
+sees-same : (kit : Kit) (r : Room) (a b : Delivery) → a .to ≢ b .to → isIssued r a ≡ true
+    → SeesSame (a .sender) (a .name) (a .value) (a .to) r (deliver kit r b .room)
 unfolding withOwn
 sees-same kit r a b apart there =
     let own = deliver-own kit r b in

@@ -76,7 +76,8 @@ record Alike (x : ℕ) (r r₁ a a₁ : Room) : Type 0 where
   room : a ≡ withOwn r x becomes
   room₁ : a₁ ≡ withOwn r₁ x becomes
 
-recorded-own : (r : Room) (x : ℕ) (own : Own) (p : Replica) → withReplica (withOwn r x own) x p ≡ withOwn r x (record { own-record = p; own-counter = own .own-counter })
+recorded-own : (r : Room) (x : ℕ) (own : Own) (p : Replica)
+    → withReplica (withOwn r x own) x p ≡ withOwn r x (record { own-record = p; own-counter = own .own-counter })
 unfolding withReplica withOwn
 recorded-own r x own p = both r refl (put-again (r .replica) x (own .own-record) p)
 
@@ -89,7 +90,9 @@ issued-own
 unfolding issue withOwn
 issued-own r x own name content =
     rw (eqb-same x)
-    (both r (fun-ext (λ y. fun-ext (λ n. split (eqb y x) (λ e. rw e (split (eqb n name) (λ d. rw d) (λ d. rw d))) (λ e. rw e (split (eqb n name) (λ d. rw d) (λ d. rw d)))))) refl)
+    (both r
+    (fun-ext (λ y. fun-ext (λ n.
+    split (eqb y x) (λ e. rw e (split (eqb n name) (λ d. rw d) (λ d. rw d))) (λ e. rw e (split (eqb n name) (λ d. rw d) (λ d. rw d)))))) refl)
 
 module _ {x : ℕ} {r r₁ : Room} where
   alike-none : r₁ .replica x ≡ r .replica x → r₁ .counter x ≡ r .counter x → Alike x r r₁ r r₁

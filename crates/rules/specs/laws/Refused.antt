@@ -20,7 +20,8 @@ refused-is-ticked kit r e = event-comes kit (tick kit r (e .gap)) (e .event) (e 
 
 -- the same at a moment of a play: event n is e, and its answer is a
 pub refused-after
-    : (kit : Kit) (n : ℕ) (e : Entry) (a : Answer) → nth (kit .events) n ≡ some e → answer kit n ≡ some a → a ≢ Taken → after kit (suc n) ≡ tick kit (after kit n) (e .gap)
+    : (kit : Kit) (n : ℕ) (e : Entry) (a : Answer) → nth (kit .events) n ≡ some e → answer kit n ≡ some a → a ≢ Taken
+    → after kit (suc n) ≡ tick kit (after kit n) (e .gap)
 unfolding answer
 refused-after kit n e a h g d =
     let g₁ : some (step kit (after kit n) e .answer) ≡ some a = rw h at g in
@@ -56,5 +57,6 @@ tick-ticked kit r gap =
 
 -- a refused event, at a moment of a play: nothing but clock and late tick
 pub refused-ticked
-    : (kit : Kit) (n : ℕ) (e : Entry) (a : Answer) → nth (kit .events) n ≡ some e → answer kit n ≡ some a → a ≢ Taken → Ticked (after kit n) (e .gap) (after kit (suc n))
+    : (kit : Kit) (n : ℕ) (e : Entry) (a : Answer) → nth (kit .events) n ≡ some e → answer kit n ≡ some a → a ≢ Taken
+    → Ticked (after kit n) (e .gap) (after kit (suc n))
 refused-ticked kit n e a h g d = rw (refused-after kit n e a h g d) (tick-ticked kit (after kit n) (e .gap))

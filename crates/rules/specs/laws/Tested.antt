@@ -1,5 +1,6 @@
 -- What was tested where an event is decided: a decision that is not a refusal says which event it is, and that every test of its row failed. One law
--- over the table of answers; the laws over all events go by it and by what is then done. Assumes nothing.
+-- over the table of answers; the laws over all events go by it and by what is then done. In order: the rows, a record for each (`ToPrepare` … `ToFile`);
+-- the law, event by event and then as one (`tested`). Assumes nothing.
 use mathlib.Core.Path.{_≡_, refl, subst}
 use mathlib.Core.Bool.{Bool, true, false, not, _&&_, _||_}
 use mathlib.Core.Logic.{_≢_}
