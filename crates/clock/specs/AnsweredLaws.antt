@@ -23,7 +23,8 @@ use Rattle.room.specs.Bounds.{Bounds}
 use Rattle.clock.specs.AnsweredOn.{upValue, hasUpdated, updatedBy, answeredAtOn, answeredOn}
 
 -- an up value is what the room has there
-up-laid : (counter : ℕ → ℕ → List Content) (y i : ℕ) → y < replicasMax → length (counter y up) ≤ placesMax → upValue (layLedger counter) (layIssued counter) (suc i) y ≡ nth (counter y up) i
+up-laid : (counter : ℕ → ℕ → List Content) (y i : ℕ) → y < replicasMax → length (counter y up) ≤ placesMax
+    → upValue (layLedger counter) (layIssued counter) (suc i) y ≡ nth (counter y up) i
 up-laid counter y i small few = content-laid counter y up small (omega arith) (suc i) few
 
 -- only what is said of the table's replicas counts
@@ -49,7 +50,8 @@ module _ (kit : Kit) (r : Room) (b : Bounds kit r) where
   pub leader-small : kit .leader < replicasMax
   leader-small = let f = b .good .f-high in omega (arith, b .good .leader-below)
 
-  at-laid : (request i : ℕ) → answeredAtOn (layTable kit) (kit .leader) request (layLedger (r .counter)) (layIssued (r .counter)) i ≡ answeredAt kit r request (suc i)
+  at-laid : (request i : ℕ)
+      → answeredAtOn (layTable kit) (kit .leader) request (layLedger (r .counter)) (layIssued (r .counter)) i ≡ answeredAt kit r request (suc i)
   unfolding answeredAtOn updatedBy hasUpdated answeredAt actives layTable
   at-laid request i =
       rw (actives-laid (kit .table), up-laid (r .counter) (kit .leader) i leader-small (b .counter-max (kit .leader) up))
