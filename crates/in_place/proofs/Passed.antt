@@ -26,11 +26,13 @@ abbrev pub all-left : {n : ℕ} (ss : List (Slot n)) (ks : Kepts ss) → Stays s
 all-left [] ks = tt
 all-left (s ∷ ss) ks = (as-left s (ks .0), all-left ss (ks .1))
 
-pub all-fit : {n : ℕ} (κs : Lfts n) (ss : List (Slot n)) (ks : Kepts ss) (a : Denots (typesAt ss κs)) (ws : Fins κs ss ks a) → fitsOf κs ss ks (all-left ss ks) a ws
+pub all-fit : {n : ℕ} (κs : Lfts n) (ss : List (Slot n)) (ks : Kepts ss) (a : Denots (typesAt ss κs)) (ws : Fins κs ss ks a)
+    → fitsOf κs ss ks (all-left ss ks) a ws
 all-fit κs [] ks a ws = tt
 all-fit κs (s ∷ ss) ks a ws = (tt, all-fit κs ss (ks .1) (a .1) (ws .1))
 
-pub all-go : {M : Type 1} (𝓤 : URA M) (H : Heap 𝓤) (A : Atoms 𝓤) (W : Given 𝓤 H A) (n : ℕ) (ss : List (Slot n)) (ks : Kepts ss) → AllGo 𝓤 H A W n ss ks (all-left ss ks)
+pub all-go : {M : Type 1} (𝓤 : URA M) (H : Heap 𝓤) (A : Atoms 𝓤) (W : Given 𝓤 H A) (n : ℕ) (ss : List (Slot n)) (ks : Kepts ss)
+    → AllGo 𝓤 H A W n ss ks (all-left ss ks)
 all-go 𝓤 H A W n [] ks = tt
 all-go 𝓤 H A W n (s ∷ ss) ks = ((λ κs x f vs ok. W .laws .⇛-intro _), all-go 𝓤 H A W n ss (ks .1))
 
