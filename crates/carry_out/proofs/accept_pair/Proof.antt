@@ -12,4 +12,9 @@ accept-pair-spec =
     (λ c κs. search needs) (λ c κs. search needs) (λ c κs. search needs) (λ c κs. search needs)
     (λ c. let after-settled-count = c .before .before .before in
     let after-accept = after-settled-count .before .before .before .before in
-    rw (← after-accept .accept .ensures, ← after-settled-count .settled-count .ensures, ← c .before .mark-of-pair .ensures, ← c .with-mark .ensures)))
+    rw (
+      c .with-mark .ensures,
+      c .before .mark-of-pair .ensures,
+      after-settled-count .settled-count .ensures,
+      after-accept .accept .ensures,
+    )))

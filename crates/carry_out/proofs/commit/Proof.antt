@@ -14,9 +14,9 @@ commit-spec =
     let after-accept = after-settled-count2 .before .before .before in
     let after-total = after-accept .before .before .before .before in
     rw (
-      ← after-total .total .ensures,
-      ← after-accept .before .settled-count .ensures,
-      ← after-accept .accept .ensures,
-      ← after-settled-count2 .settled-count2 .ensures,
-      ← c .settle .ensures,
+      c .settle .ensures,
+      after-settled-count2 .settled-count2 .ensures,
+      after-accept .accept .ensures,
+      after-accept .before .settled-count .ensures,
+      after-total .total .ensures,
     )))

@@ -10,4 +10,4 @@ hand-spec =
     tie.close
     (tie.spec
     (λ c κs. search needs) (λ c κs. search needs)
-    (λ c. rw (← c .before .issue .ensures, ← c .hold .ensures)))
+    (λ c. rw (c .hold .ensures, c .before .issue .ensures)))
