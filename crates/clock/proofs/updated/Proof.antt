@@ -1,4 +1,4 @@
--- `updated`: every active replica before y has it. Assumes nothing.
+-- `updated`: every active replica before y has the UPDATE, so that those from y on decide. Assumes nothing.
 use borrow.Author.Needs.{needs}
 use mathlib.Core.Path.{refl, sym, _∙_}
 use Prim.Native.Nat.{_-_}

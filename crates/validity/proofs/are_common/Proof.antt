@@ -1,4 +1,4 @@
--- `are_common`: the active replicas from x on decide. Assumes nothing.
+-- `are_common`: every active replica before x has the request in common, so that those from x on decide. Assumes nothing.
 use mathlib.Core.Path.{refl, sym, _∙_}
 use Prim.Native.Nat.{_-_}
 use lib.ListN.{length}

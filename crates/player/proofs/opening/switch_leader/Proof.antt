@@ -1,4 +1,4 @@
--- `switch_leader`: no replica below x is the one that is sought. Assumes nothing.
+-- `switch_leader`: no replica below x is the one that is sought, an active one that is not the leader; those from x on decide. Assumes nothing.
 use mathlib.Core.Path.{refl, sym, _∙_}
 use Prim.Native.Nat.{_-_}
 use lib.ListN.{length}
