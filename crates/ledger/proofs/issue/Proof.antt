@@ -17,8 +17,8 @@ issue-spec =
     (λ c κs. search needs) (λ c. search needs) (λ c. search needs) (λ c. search needs) (λ c. search needs) (λ c. search needs)
     (λ c. search needs) (λ c. search needs)
     (λ c. rw (
+      c .numbers-of-content .ensures,
       ← c .before .before .before .before .place-index .ensures,
       lt-leb _ _ (c .before .before .before .if1 .left),
       lt-leb _ _ (c .before .if2 .left),
-      ← c .numbers-of-content .ensures,
     )))

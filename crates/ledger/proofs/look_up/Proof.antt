@@ -42,11 +42,11 @@ look-up-spec =
     (λ c. let tested3 = c .before .before .before in
     let tested = tested3 .before .before .before in
     rw (
+      c .content-of .ensures,
       ← tested .before .before .place-index .ensures,
       ← tested .before .index .ensures,
       lt-leb _ _ (tested .if1 .left),
       ne-eqb _ _ (tested3 .before .before .if2 .left),
       le-ltb _ _ (tested3 .if3 .left),
       le-ltb _ _ (c .before .before .if4 .left),
-      ← c .content-of .ensures,
     )))
