@@ -25,6 +25,7 @@ is-borne-out-spec =
     (λ c. let tested5 = c .before .before .before in
     let tested3 = tested5 .before .before .before in
     rw (
+      c .is-listed .ensures,
       le-ltb _ _ (tested3 .before .before .if1 .left),
       le-ltb _ _ (tested3 .before .if2 .left),
       le-ltb _ _ (tested3 .if3 .left),
@@ -33,7 +34,6 @@ is-borne-out-spec =
       tested5 .if5 .taken,
       ← c .before .before .are-settled .ensures,
       c .before .if6 .taken,
-      ← c .is-listed .ensures,
     ))
     (λ c. let after-are-committed = c .before .before .before in
     let tested2 = after-are-committed .before .before .before in

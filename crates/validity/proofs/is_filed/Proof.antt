@@ -30,13 +30,13 @@ is-filed-spec =
     let after-is-next = after-is-next2 .before .before in
     let tested2 = after-is-next .before .before .before .before in
     rw (
+      c .is-borne-out .ensures,
       lt-leb _ _ (tested2 .before .if1 .left),
       lt-leb _ _ (tested2 .if2 .left),
       ← after-is-next .is-next .ensures,
       after-is-next2 .before .if3 .taken,
       ← after-is-next2 .is-next2 .ensures,
       c .before .before .if4 .taken,
-      ← c .is-borne-out .ensures,
     ))
     (λ c. let after-is-next = c .before .before .before in
     let tested2 = after-is-next .before .before .before .before in
