@@ -34,6 +34,7 @@ tick-spec =
     let tested2 = after-is-due .before .before .before in
     let after-wrapping-add-u64 = tested2 .before .before .before in
     rw (
+      c .due-at .ensures,
       ← after-wrapping-add-u64 .before .wide .ensures,
       ← after-wrapping-add-u64 .wrapping-add-u64 .ensures,
       tested2 .before .before .if1 .left,
@@ -42,7 +43,6 @@ tick-spec =
       lt-ltb _ _ (after-is-due .before .before .if3 .left),
       ← after-is-due .is-due .ensures,
       c .before .before .if4 .taken,
-      ← c .due-at .ensures,
     ))
     (λ c. let tested3 = c .before .before .before in
     let tested = tested3 .before .before .before in
