@@ -57,7 +57,8 @@ unfoldable pub prepareOn : Replica → ℕ → ℕ → ℕ → ℕ → ℕ → L
 prepareOn p sender value request me leader table b =
     let q = acceptOn (noteOn p request) sender ag value in
     let b₁ = issuing b me ag (Content.Commit request value) in
-    settleOn q (settledIn (p .accepted) table leader me (totalOf (b .issued) me ag)) (settledIn (q .accepted) table leader me (totalOf (b₁ .issued) me ag)) me b₁
+    settleOn q (settledIn (p .accepted) table leader me (totalOf (b .issued) me ag))
+    (settledIn (q .accepted) table leader me (totalOf (b₁ .issued) me ag)) me b₁
 
 unfoldable pub commitOn : Replica → ℕ → ℕ → ℕ → ℕ → List ℕ → Book → Applied
 commitOn p sender value me leader table b =

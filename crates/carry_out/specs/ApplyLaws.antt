@@ -48,7 +48,8 @@ issuedMore g x name content = put2 g x name (g x name ++ (content ∷ []))
 
 -- ---- a history's list
 
-store-all-laid : (l m : List ℕ) → length l + length m ≤ requestsMax → storeAll (row (pad requestsMax l) (length l)) m ≡ row (pad requestsMax (l ++ m)) (length (l ++ m))
+store-all-laid : (l m : List ℕ) → length l + length m ≤ requestsMax
+    → storeAll (row (pad requestsMax l) (length l)) m ≡ row (pad requestsMax (l ++ m)) (length (l ++ m))
 store-all-laid l [] h = rw (append-nil l)
 store-all-laid l (q ∷ qs) h =
     let room : length l < requestsMax = omega arith in
@@ -75,7 +76,8 @@ first-of-list : (o : Option Filing) → take (getD (headOf o) 2 0) (pad requests
 first-of-list none = refl
 first-of-list (some h) = take-pad requestsMax (h .list)
 
-held-mark-laid : (r : Room) (o : Option ℕ) → length (r .histories) ≤ historiesMax → heldMark (isSome o) (numberOr0 o) (layHeads (r .histories)) (layLists (r .histories)) ≡ markOf (heldList r o)
+held-mark-laid : (r : Room) (o : Option ℕ) → length (r .histories) ≤ historiesMax
+    → heldMark (isSome o) (numberOr0 o) (layHeads (r .histories)) (layLists (r .histories)) ≡ markOf (heldList r o)
 unfolding heldMark heldList
 held-mark-laid r none b = refl
 held-mark-laid r (some h) b =

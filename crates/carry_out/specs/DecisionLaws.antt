@@ -1,5 +1,7 @@
 -- Each decision done on the parts of a laid-out room gives the room in which the rules have carried it out, laid out; the premises are what the
--- decision itself has tested. The one law over all events: DoneLaws. Assumes nothing.
+-- decision itself has tested. First what holds of any replica that acts (its record and the counters laid out, its condition, settling), then, in
+-- one module over the kit and the room, each decision: those on ag, those on up, those on sw, and what is entered (submissions, filed histories).
+-- The one law over all events: DoneLaws. Assumes nothing.
 use mathlib.Core.Path.{_≡_, refl, ap, _∙_}
 use mathlib.Core.Bool.{true, false}
 use mathlib.Core.List.{List, [], _∷_, _++_}
@@ -74,7 +76,8 @@ stays-laid r known me below = rw (keep-replica (r .replica) me below)
 
 -- replica x issues, its record stays
 issued-laid : (r : Room) (known me x name : ℕ) (content : Content) → me < replicasMax
-    → acting (layRoom r known) me (applied (layReplica (r .replica me)) (layBook (issuedMore (r .counter) x name content))) ≡ layRoom (issue r x name content) known
+    → acting (layRoom r known) me (applied (layReplica (r .replica me)) (layBook (issuedMore (r .counter) x name content)))
+    ≡ layRoom (issue r x name content) known
 unfolding layRoom layDesk issue
 issued-laid r known me x name content below = rw (keep-replica (r .replica) me below)
 
@@ -131,14 +134,16 @@ module _ (kit : Kit) (r : Room) (known : ℕ) (b : Bounds kit r) (me : ℕ) (bel
   unfolding doneOn enterOn applyOn countedOn carryOut layRoom
   done-idle list = stays-laid r known me below
 
-  pub done-issue : (x name : ℕ) (content : Content) (list : List ℕ) → x < replicasMax → name < names → length (r .counter x name) < placesMax → Done (Issue x name content) list
+  pub done-issue : (x name : ℕ) (content : Content) (list : List ℕ) → x < replicasMax → name < names → length (r .counter x name) < placesMax
+      → Done (Issue x name content) list
   unfolding doneOn enterOn applyOn countedOn carryOut layRoom
   done-issue x name content list xb nb room =
       rw (issue-laid (r .counter) x name xb nb content room) (issued-laid r known me x name content below)
 
   -- ---- on ag
 
-  pub done-commit : (sender value : ℕ) (list : List ℕ) → sender < replicasMax → isFaulty (p .condition) ≡ false → Done (Decision.Act (Act.Commit sender value)) list
+  pub done-commit : (sender value : ℕ) (list : List ℕ) → sender < replicasMax → isFaulty (p .condition) ≡ false
+      → Done (Decision.Act (Act.Commit sender value)) list
   unfolding doneOn enterOn applyOn actOn countedOn carryOut acted layRoom layRoles afterCommit commitOn accept
   done-commit sender value list sb correct =
       let q = accept p sender ag value in
@@ -161,7 +166,8 @@ module _ (kit : Kit) (r : Room) (known : ℕ) (b : Bounds kit r) (me : ℕ) (bel
       rw (total-laid (r .counter) me ag below (omega arith), note-laid p request fits, accept-laid (note p request) sender ag value sb (omega arith))
       (rw (settled p me own, issue-laid (r .counter) me ag below (omega arith) content (own-room ag correct))
       (rw (total-laid (r₁ .counter) me ag below (omega arith), grown ag content, settled q me (suc own))
-      (settled-as r₁ known me (settledCount kit me p own) (settledCount kit me q (suc own)) q below (omega (arith, length-snoc (p .noted) request)) (own-room up correct))))
+      (settled-as r₁ known me (settledCount kit me p own) (settledCount kit me q (suc own)) q below
+      (omega (arith, length-snoc (p .noted) request)) (own-room up correct))))
 
   -- ---- on up
 
@@ -179,7 +185,11 @@ module _ (kit : Kit) (r : Room) (known : ℕ) (b : Bounds kit r) (me : ℕ) (bel
       let fits : length (p .noted) < requestsMax = noting-fits b me request is new in
       let q = accept (notePair p request mark) sender up value in
       let pair-fits : length (p .pairMarks) < requestsMax = omega (arith, b .replicas me .pairs-noted) in
-      rw (note-pair-laid p request mark fits pair-fits, pair-laid kit (size-max (b .good)) (leader-max (b .good)) (notePair p request mark) sender value me sb (omega (arith, length-snoc (p .pairMarks) mark)))
+      rw (
+        note-pair-laid p request mark fits pair-fits,
+        pair-laid kit (size-max (b .good)) (leader-max (b .good)) (notePair p request mark) sender value me sb
+            (omega (arith, length-snoc (p .pairMarks) mark)),
+      )
       (acted-laid r known (r .counter) me (withMark q (markOfPair (q .pairMarks) (settledCount kit me q 0))))
 
   -- ---- on sw
@@ -208,25 +218,41 @@ module _ (kit : Kit) (r : Room) (known : ℕ) (b : Bounds kit r) (me : ℕ) (bel
 
   remembered : (request : ℕ) → length (r .submitted) < requestsMax
       → entering (layRoom r known) (Submit request)
-      (entered (storeRequest (length (r .submitted)) request (r .clock) (pad requestsMax (r .submitted)) (pad requestsMax (r .ticks))) (filings (layHeads (r .histories)) (layLists (r .histories))))
+      (entered (storeRequest (length (r .submitted)) request (r .clock) (pad requestsMax (r .submitted)) (pad requestsMax (r .ticks)))
+      (filings (layHeads (r .histories)) (layLists (r .histories))))
       ≡ layRoom (remember r request) known
   unfolding layRoom layDesk remember countedOn storeRequest
   remembered request room =
       let n = length (r .submitted) in
-      let ticked : set (pad requestsMax (r .ticks)) n (r .clock) ≡ pad requestsMax (r .ticks ++ (r .clock ∷ [])) = rw (← b .ticks-length) (set-pad requestsMax (r .ticks) (r .clock) (omega (arith, b .ticks-length))) in
-      rw (lt-leb requestsMax n room, set-pad requestsMax (r .submitted) request room, ticked, lt-ltb n requestsMax room, length-snoc (r .submitted) request, add-one n)
+      let ticked : set (pad requestsMax (r .ticks)) n (r .clock) ≡ pad requestsMax (r .ticks ++ (r .clock ∷ [])) =
+      rw (← b .ticks-length) (set-pad requestsMax (r .ticks) (r .clock) (omega (arith, b .ticks-length))) in
+      rw (
+        lt-leb requestsMax n room,
+        set-pad requestsMax (r .submitted) request room,
+        ticked,
+        lt-ltb n requestsMax room,
+        length-snoc (r .submitted) request,
+        add-one n,
+      )
 
   -- a running leader prepares
   led : (request : ℕ) → length (p .noted) < requestsMax
       → acting (layRoom (remember r request) known) me (leadOn (layReplica p) request me (layBook (r .counter)))
-      ≡ layRoom (pick (isRunning (p .condition)) (issue (withReplica (remember r request) me (note p request)) me ag (Content.Prepare request)) (remember r request)) known
+      ≡ layRoom
+      (pick (isRunning (p .condition)) (issue (withReplica (remember r request) me (note p request)) me ag (Content.Prepare request))
+      (remember r request)) known
   unfolding leadOn remember withReplica issue
   led request fits =
       let r₁ = remember r request in
       let content = Content.Prepare request in
       split (isRunning (p .condition))
       (λ e.
-      rw (condition-laid p, e, note-laid p request fits, issue-laid (r .counter) me ag below (omega arith) content (own-room ag (running-correct (p .condition) e)))
+      rw (
+        condition-laid p,
+        e,
+        note-laid p request fits,
+        issue-laid (r .counter) me ag below (omega arith) content (own-room ag (running-correct (p .condition) e)),
+      )
       (acted-laid r₁ known (issuedMore (r .counter) me ag content) me (note p request)))
       (λ e. rw (condition-laid p, e) (stays-laid r₁ known me below))
 
@@ -238,9 +264,12 @@ module _ (kit : Kit) (r : Room) (known : ℕ) (b : Bounds kit r) (me : ℕ) (bel
       ∙ led request fits
       ∙ rw is-leader
 
-  filed-as : (decision : Decision) (h : Filing) (n : ℕ) → length (r .histories) < historiesMax → countedOn (layDesk r known) decision ≡ layDesk (withHistory r h n) known
+  filed-as : (decision : Decision) (h : Filing) (n : ℕ) → length (r .histories) < historiesMax
+      → countedOn (layDesk r known) decision ≡ layDesk (withHistory r h n) known
       → entering (layRoom r known) decision
-      (entered (submissions (pad requestsMax (r .submitted)) (pad requestsMax (r .ticks))) (fileOn (length (r .histories)) (h .j) (h .k) (length (h .list)) (pad requestsMax (h .list)) (layHeads (r .histories)) (layLists (r .histories))))
+      (entered (submissions (pad requestsMax (r .submitted)) (pad requestsMax (r .ticks)))
+      (fileOn (length (r .histories)) (h .j) (h .k) (length (h .list)) (pad requestsMax (h .list)) (layHeads (r .histories))
+      (layLists (r .histories))))
       ≡ layRoom (withHistory r h n) known
   unfolding layRoom fileOn withHistory
   filed-as decision h n room counted = rw (counted, lt-leb historiesMax (length (r .histories)) room, store-head (r .histories) h, store-list (r .histories) h)
@@ -250,7 +279,8 @@ module _ (kit : Kit) (r : Room) (known : ℕ) (b : Bounds kit r) (me : ℕ) (bel
   done-file j k list room filed =
       let h : Filing = record { j = j; k = k; list = list } in
       let n = length (r .histories) in
-      let counted : countedOn (layDesk r known) (File j k) ≡ layDesk (withHistory r h (suc (r .filed))) known = rw (lt-ltb n 8 room, lt-ltb (r .filed) 8 filed, length-snoc (r .histories) h, add-one n, add-one (r .filed)) in
+      let counted : countedOn (layDesk r known) (File j k) ≡ layDesk (withHistory r h (suc (r .filed))) known =
+      rw (lt-ltb n 8 room, lt-ltb (r .filed) 8 filed, length-snoc (r .histories) h, add-one n, add-one (r .filed)) in
       ap (λ (parts : Parts). acting parts me (applied (layReplica p) (layBook (r .counter)))) (filed-as (File j k) h (suc (r .filed)) room counted)
       ∙ stays-laid (withHistory r h (suc (r .filed))) known me below
 

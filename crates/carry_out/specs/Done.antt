@@ -43,6 +43,7 @@ acting parts me a =
 -- p is the record of replica `me`, the n requests of `list` those of a filed history
 unfoldable pub doneOn : Roles → List ℕ → Parts → Replica → ℕ → Decision → List ℕ → ℕ → Parts
 doneOn roles table parts p me decision list n =
-    let e = enterOn decision (parts .desk) (p .noted) (p .count) list n (submissions (parts .requests) (parts .ticks)) (filings (parts .heads) (parts .lists)) in
+    let e = enterOn decision (parts .desk) (p .noted) (p .count) list n (submissions (parts .requests) (parts .ticks))
+    (filings (parts .heads) (parts .lists)) in
     acting (entering parts decision e) me
     (applyOn p decision (parts .desk) me roles table (e .heads) (e .lists) (book (parts .ledger) (parts .issued)))

@@ -59,7 +59,8 @@ module _ (kit : Kit) (r : Room) (known : ℕ) (b : Bounds kit r) (list : List �
 
 -- the law: what is done of a good event's decision, with the record of the replica concerned and the event's list
 pub done-laid : (kit : Kit) (r : Room) (known : ℕ) (event : Event) (list : List ℕ) → Bounds kit r → GoodEvent (replicas (kit .f)) event list
-    → doneOn (layRoles kit) (layTable kit) (layRoom r known) (layReplica (r .replica (concerned kit event))) (concerned kit event) (decide kit r event) (pad requestsMax list) (length list)
+    → doneOn (layRoles kit) (layTable kit) (layRoom r known) (layReplica (r .replica (concerned kit event))) (concerned kit event)
+    (decide kit r event) (pad requestsMax list) (length list)
     ≡ layRoom (carryOut kit r (concerned kit event) (decide kit r event) list) known
 done-laid kit r known event list b good =
     done-decided kit r known b list event good (concerned kit event) (concerned-below kit event list (b .good) good) (decide kit r event) (tested kit r event)

@@ -24,7 +24,8 @@ use Rattle.room.specs.GoodLaws.{size-max, leader-max}
 use Rattle.clock.specs.AnsweredOn.{upValue, hasUpdated, updatedBy, answeredAtOn, answeredOn}
 
 -- an up value is what the room has there
-up-laid : (counter : ℕ → ℕ → List Content) (y i : ℕ) → y < replicasMax → length (counter y up) ≤ placesMax → upValue (layLedger counter) (layIssued counter) (suc i) y ≡ nth (counter y up) i
+up-laid : (counter : ℕ → ℕ → List Content) (y i : ℕ) → y < replicasMax → length (counter y up) ≤ placesMax
+    → upValue (layLedger counter) (layIssued counter) (suc i) y ≡ nth (counter y up) i
 up-laid counter y i small few = content-laid counter y up small (omega arith) (suc i) few
 
 -- no value that the leader has not issued answers a request, since the leader is active
@@ -37,7 +38,8 @@ unanswered-past kit role r request i past =
     absurd (omega (arith, nth-lt (r .counter (kit .leader) up) i (isContent-same (nth (r .counter (kit .leader) up) i) _ own))))
 
 module _ (kit : Kit) (r : Room) (b : Bounds kit r) where
-  at-laid : (request i : ℕ) → answeredAtOn (layTable kit) (kit .leader) request (layLedger (r .counter)) (layIssued (r .counter)) i ≡ answeredAt kit r request (suc i)
+  at-laid : (request i : ℕ)
+      → answeredAtOn (layTable kit) (kit .leader) request (layLedger (r .counter)) (layIssued (r .counter)) i ≡ answeredAt kit r request (suc i)
   unfolding answeredAtOn updatedBy hasUpdated answeredAt actives layTable
   at-laid request i =
       rw (actives-laid (kit .table), up-laid (r .counter) (kit .leader) i (leader-max (b .good)) (b .counter-max (kit .leader) up))

@@ -33,7 +33,8 @@ module _ (kit : Kit) (r : Room) (known gap : ℕ) (b : Bounds kit r) (k : Known 
 
   -- the desk
   pub desk-laid
-      : tickOn (layDesk r known) gap (layRoles kit) (layTable kit) (pad requestsMax (r .submitted)) (pad requestsMax (r .ticks)) (layLedger (r .counter)) (layIssued (r .counter))
+      : tickOn (layDesk r known) gap (layRoles kit) (layTable kit) (pad requestsMax (r .submitted)) (pad requestsMax (r .ticks))
+      (layLedger (r .counter)) (layIssued (r .counter))
       ≡ layDesk (tick kit r gap) (knownAfter kit r known gap)
   unfolding tickOn stopsAt firstOpen layDesk layRoles tick withClock withLate
   desk-laid =

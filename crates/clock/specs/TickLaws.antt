@@ -68,7 +68,9 @@ laid-at l i a e = let here = sym (nth-getD l i 0 (nth-lt l i e)) ∙ e in getD-p
 module _ (kit : Kit) (r : Room) (known gap : ℕ) where
   -- submission i is due and answered, as the code tests it
   abbrev testOf : ℕ → Bool
-  testOf = passed (r .clock + gap) (layRoles kit) (layTable kit) (pad requestsMax (r .submitted)) (pad requestsMax (r .ticks)) (layLedger (r .counter)) (layIssued (r .counter))
+  testOf =
+      passed (r .clock + gap) (layRoles kit) (layTable kit) (pad requestsMax (r .submitted)) (pad requestsMax (r .ticks)) (layLedger (r .counter))
+      (layIssued (r .counter))
 
   -- where the search stops
   abbrev pub stopOf : ℕ
@@ -76,7 +78,8 @@ module _ (kit : Kit) (r : Room) (known gap : ℕ) where
 
   -- whether the submission there is overdue, as the code tests it
   abbrev pub isOverdue : Bool
-  isOverdue = ltb stopOf (length (r .submitted)) && (ltb stopOf requestsMax && isDue (getD (pad requestsMax (r .ticks)) stopOf 0) (kit .patience) (r .clock + gap))
+  isOverdue =
+      ltb stopOf (length (r .submitted)) && (ltb stopOf requestsMax && isDue (getD (pad requestsMax (r .ticks)) stopOf 0) (kit .patience) (r .clock + gap))
 
 module _ (kit : Kit) (r : Room) (known gap : ℕ) (b : Bounds kit r) (k : Known kit r known) (small : gap ≤ ticksMax) where
   abbrev clock : ℕ
@@ -102,7 +105,13 @@ module _ (kit : Kit) (r : Room) (known gap : ℕ) (b : Bounds kit r) (k : Known 
   passed-laid i q u e d =
       let room : i < requestsMax = omega (arith, nth-lt (r .submitted) i e, b .submitted-max) in
       let fits = tick-small i u d in
-      rw (lt-ltb i requestsMax room, laid-at (r .ticks) i u d, laid-at (r .submitted) i q e, due-wait u (kit .patience) clock (fits .0) (fits .1), answered-laid kit r b q)
+      rw (
+        lt-ltb i requestsMax room,
+        laid-at (r .ticks) i u d,
+        laid-at (r .submitted) i q e,
+        due-wait u (kit .patience) clock (fits .0) (fits .1),
+        answered-laid kit r b q,
+      )
 
   -- the submission that the search has come to, if there is one
   tick-of : (i : ℕ) → i < length (r .submitted) → (u : ℕ) × (nth (r .ticks) i ≡ some u)
@@ -130,14 +139,16 @@ module _ (kit : Kit) (r : Room) (known gap : ℕ) (b : Bounds kit r) (k : Known 
   skips = overdue-skip kit later (r .submitted) (r .ticks) stop (λ i q h e. answered-clock kit r clock q ∙ stop-known .all-answered i q h e)
 
   -- a later submission has waited no longer
-  waits-less : (u i v : ℕ) → nth (r .ticks) stop ≡ some u → nth (drop stop (r .ticks)) i ≡ some v → leb (kit .patience) (clock - u) ≡ false → leb (kit .patience) (clock - v) ≡ false
+  waits-less : (u i v : ℕ) → nth (r .ticks) stop ≡ some u → nth (drop stop (r .ticks)) i ≡ some v → leb (kit .patience) (clock - u) ≡ false
+      → leb (kit .patience) (clock - v) ≡ false
   waits-less u i v d e w =
       let rises : u ≤ v = b .ticks-ascend stop (stop + i) u v (omega arith) d (sym (nth-drop stop (r .ticks) i) ∙ e) in
       lt-leb (kit .patience) (clock - v) (omega (arith, leb-false (kit .patience) (clock - u) w))
 
   -- the late tick of the rules is that of the submission at which the search stops
   pub overdue-found
-      : overdue kit later (r .submitted) (r .ticks) ≡ pick (isOverdue kit r known gap) (some (dueAt (getD (pad requestsMax (r .ticks)) stop 0) (kit .patience))) none
+      : overdue kit later (r .submitted) (r .ticks)
+      ≡ pick (isOverdue kit r known gap) (some (dueAt (getD (pad requestsMax (r .ticks)) stop 0) (kit .patience))) none
   unfolding withClock dueAt
   overdue-found =
       by-cases (decLt stop (length (r .submitted)))
@@ -150,7 +161,8 @@ module _ (kit : Kit) (r : Room) (known gap : ℕ) (b : Bounds kit r) (k : Known 
       skips
       ∙ rw (lt-ltb stop (length (r .submitted)) there, lt-ltb stop requestsMax (omega (arith, b .submitted-max)), laid-at (r .ticks) stop (u .0) (u .1), due-is)
       (split (leb (kit .patience) (clock - u .0))
-      (λ w. let open-one : answered kit r (q .0) ≡ false = rw w at (sym test-is ∙ first-fails test known (length (r .submitted) - known) (omega (arith, k .within))) in
+      (λ w. let open-one : answered kit r (q .0) ≡ false =
+      rw w at (sym test-is ∙ first-fails test known (length (r .submitted) - known) (omega (arith, k .within))) in
       rw w
       (overdue-here kit later (r .submitted) (r .ticks) stop (q .0) (u .0) (q .1) (u .1) (answered-clock kit r clock (q .0) ∙ open-one) w
       ∙ ap (λ (n : ℕ). some n) (sym (mod-eq-of-lt (fits .1)))))

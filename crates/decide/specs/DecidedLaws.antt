@@ -43,7 +43,8 @@ standingOf p = record { condition = p .condition; count = p .count; pairs = p .p
 -- p is the record of the replica concerned
 unfoldable pub decidedOn : Roles → List ℕ → Parts → Replica → Event → Decision
 decidedOn roles table parts p event =
-    decideOn event (standingOf p) (parts .desk) roles (p .noted) (p .marks) (p .accepted) table (parts .requests) (parts .heads) (parts .lists) (parts .ledger) (parts .issued)
+    decideOn event (standingOf p) (parts .desk) roles (p .noted) (p .marks) (p .accepted) table (parts .requests) (parts .heads) (parts .lists)
+    (parts .ledger) (parts .issued)
 
 -- ---- who is concerned
 
@@ -51,7 +52,8 @@ below-is : (n : ℕ) → n < replicasMax → belowSeven n ≡ n
 unfolding belowSeven
 below-is n h = rw (lt-leb replicasMax n h)
 
-pub concerned-laid : (kit : Kit) (event : Event) (list : List ℕ) → GoodKit kit → GoodEvent (replicas (kit .f)) event list → concernedIn event (layRoles kit) ≡ concerned kit event
+pub concerned-laid : (kit : Kit) (event : Event) (list : List ℕ) → GoodKit kit → GoodEvent (replicas (kit .f)) event list
+    → concernedIn event (layRoles kit) ≡ concerned kit event
 unfolding concernedIn layRoles concerned
 concerned-laid kit event list k g = below-is (concerned kit event) (concerned-below kit event list k g)
 
@@ -91,7 +93,8 @@ module _ (kit : Kit) (r : Room) (b : Bounds kit r) (known : ℕ) where
   unfolding decidedOn decideOn layRoom layDesk decide
   submit-laid x request = rw (take-pad requestsMax (r .submitted))
 
-  issue-laid : (x name : ℕ) (content : Content) → x < replicasMax → name < names → decided x (Event.Issue x name content) ≡ decide kit r (Event.Issue x name content)
+  issue-laid : (x name : ℕ) (content : Content) → x < replicasMax → name < names
+      → decided x (Event.Issue x name content) ≡ decide kit r (Event.Issue x name content)
   unfolding decidedOn decideOn layRoom layDesk layReplica decide
   issue-laid x name content hx hn = rw (total-laid (r .counter) x name hx hn)
 

@@ -51,21 +51,37 @@ past-end (x ∷ l) zero e = no-way (cc)
 past-end (x ∷ l) (suc i) e = omega (arith, past-end l i e)
 
 module _ (kit : Kit) (r : Room) (b : Bounds kit r) where
-  pub content-laid : (x name value : ℕ) → x < replicasMax → name < names → contentOn (layLedger (r .counter)) (layIssued (r .counter)) x name value ≡ contentAt (r .counter x name) value
+  pub content-laid : (x name value : ℕ) → x < replicasMax → name < names
+      → contentOn (layLedger (r .counter)) (layIssued (r .counter)) x name value ≡ contentAt (r .counter x name) value
   content-laid x name value hx hn = Ledger.content-laid (r .counter) x name hx hn value (b .counter-max x name)
 
   -- ---- one history
 
   module _ (list : List ℕ) where
-    committed-laid : (i : ℕ) → isCommittedOn (layLedger (r .counter)) (layIssued (r .counter)) (kit .leader) (switchLeader kit) (pad requestsMax list) i ≡ isCommitted kit r list (suc i)
+    committed-laid : (i : ℕ)
+        → isCommittedOn (layLedger (r .counter)) (layIssued (r .counter)) (kit .leader) (switchLeader kit) (pad requestsMax list) i
+        ≡ isCommitted kit r list (suc i)
     unfolding isCommittedOn isCommittedAt isCommitted
     committed-laid i =
-        rw (getD-pad requestsMax list i, entryAt-suc list i, content-laid (switchLeader kit) ag (suc i) (switch-max (b .good)) (omega arith), content-laid (kit .leader) ag (suc i) (leader-max (b .good)) (omega arith))
+        rw (
+          getD-pad requestsMax list i,
+          entryAt-suc list i,
+          content-laid (switchLeader kit) ag (suc i) (switch-max (b .good)) (omega arith),
+          content-laid (kit .leader) ag (suc i) (leader-max (b .good)) (omega arith),
+        )
 
-    settled-laid : (i : ℕ) → i < length list → isSettledOn (layLedger (r .counter)) (layIssued (r .counter)) (layTable kit) (kit .leader) (switchLeader kit) (pad requestsMax list) i ≡ isSettledBy kit r list (suc i)
+    settled-laid : (i : ℕ) → i < length list
+        → isSettledOn (layLedger (r .counter)) (layIssued (r .counter)) (layTable kit) (kit .leader) (switchLeader kit) (pad requestsMax list) i
+        ≡ isSettledBy kit r list (suc i)
     unfolding isSettledOn isSettledAt isSettledBy isCommonTo actives layTable
     settled-laid i h =
-        rw (getD-pad requestsMax list i, entryAt-suc list i, take-pad-le requestsMax (suc i) list h, content-laid (switchLeader kit) up (suc i) (switch-max (b .good)) (omega arith), actives-laid (kit .table))
+        rw (
+          getD-pad requestsMax list i,
+          entryAt-suc list i,
+          take-pad-le requestsMax (suc i) list h,
+          content-laid (switchLeader kit) up (suc i) (switch-max (b .good)) (omega arith),
+          actives-laid (kit .table),
+        )
         (ap (λ (t : Bool). t && isContent (nth (r .counter (switchLeader kit) up) i) (Content.Update (getD list i 0) (markOf (take (suc i) list))))
         (actives-ext (kit .table) 0 _ _ (λ y below. rw (content-laid y ag (suc i) (omega (arith, size-max (b .good))) (omega arith)))))
 
@@ -77,7 +93,8 @@ module _ (kit : Kit) (r : Room) (b : Bounds kit r) where
       && (allOf (filing .list) (λ request. holds request (r .submitted)) && distinct (filing .list)))
 
   borne-out-laid : (filing : Filing) → FilingBounds filing
-      → isBorneOut (layLedger (r .counter)) (layIssued (r .counter)) (layTable kit) (kit .leader) (switchLeader kit) (r .submitted) (pad requestsMax (filing .list)) (length (filing .list)) (filing .k) (filing .j)
+      → isBorneOut (layLedger (r .counter)) (layIssued (r .counter)) (layTable kit) (kit .leader) (switchLeader kit) (r .submitted)
+      (pad requestsMax (filing .list)) (length (filing .list)) (filing .k) (filing .j)
       ≡ isBorne filing
   unfolding isBorneOut isListed isBorne
   borne-out-laid filing f =
@@ -85,14 +102,20 @@ module _ (kit : Kit) (r : Room) (b : Bounds kit r) where
       let long : n ≤ length (pad requestsMax (filing .list)) = omega (arith, length-pad requestsMax (filing .list) (f .list-max), f .list-max) in
       let committed = allBelow-ext (filing .k) _ _ (λ i h. committed-laid (filing .list) i) in
       let settled = allBelow-ext (filing .j) _ _ (λ i h. settled-laid (filing .list) i (omega (arith, f .j-k, f .k-list))) in
-      rw (le-ltb requestsMax n (f .list-max), le-ltb (length (pad requestsMax (filing .list))) n long, le-ltb n (filing .k) (f .k-list), le-ltb (filing .k) (filing .j) (f .j-k))
+      rw (
+        le-ltb requestsMax n (f .list-max),
+        le-ltb (length (pad requestsMax (filing .list))) n long,
+        le-ltb n (filing .k) (f .k-list),
+        le-ltb (filing .k) (filing .j) (f .j-k),
+      )
       (rw (committed, settled, take-pad requestsMax (filing .list)))
 
   few-histories : length (r .histories) ≤ historiesMax
   few-histories = omega (arith, b .histories-filed, b .filed-max)
 
   filed-laid : (h p q : ℕ) (filing : Filing) → nth (r .histories) h ≡ some filing
-      → isFiledAt (layLedger (r .counter)) (layIssued (r .counter)) (layTable kit) (kit .leader) (switchLeader kit) (r .submitted) (layHeads (r .histories)) (layLists (r .histories)) (length (r .histories)) h p q
+      → isFiledAt (layLedger (r .counter)) (layIssued (r .counter)) (layTable kit) (kit .leader) (switchLeader kit) (r .submitted)
+      (layHeads (r .histories)) (layLists (r .histories)) (length (r .histories)) h p q
       ≡ (eqb p (suc (filing .k)) && (eqb q (suc (filing .j)) && isBorne filing))
   unfolding isFiledAt
   filed-laid h p q filing e =
@@ -102,14 +125,17 @@ module _ (kit : Kit) (r : Room) (b : Bounds kit r) where
       (rw (borne-out-laid filing (b .filings h filing e)))
 
   unfiled-laid : (h p q : ℕ) → nth (r .histories) h ≡ none
-      → isFiledAt (layLedger (r .counter)) (layIssued (r .counter)) (layTable kit) (kit .leader) (switchLeader kit) (r .submitted) (layHeads (r .histories)) (layLists (r .histories)) (length (r .histories)) h p q ≡ false
+      → isFiledAt (layLedger (r .counter)) (layIssued (r .counter)) (layTable kit) (kit .leader) (switchLeader kit) (r .submitted)
+      (layHeads (r .histories)) (layLists (r .histories)) (length (r .histories)) h p q
+      ≡ false
   unfolding isFiledAt
   unfiled-laid h p q e = rw (le-leb (length (r .histories)) h (past-end (r .histories) h e))
 
   by-filing : (h p q : ℕ) (o : Option Filing) → nth (r .histories) h ≡ o
       → (isContent (contentAt (r .counter (switchLeader kit) ag) p) (Content.History h)
       && (isContent (contentAt (r .counter (switchLeader kit) up) q) (Content.History h)
-      && isFiledAt (layLedger (r .counter)) (layIssued (r .counter)) (layTable kit) (kit .leader) (switchLeader kit) (r .submitted) (layHeads (r .histories)) (layLists (r .histories)) (length (r .histories)) h p q))
+      && isFiledAt (layLedger (r .counter)) (layIssued (r .counter)) (layTable kit) (kit .leader) (switchLeader kit) (r .submitted)
+      (layHeads (r .histories)) (layLists (r .histories)) (length (r .histories)) h p q))
       ≡ isValidFiling kit r p q h o
   unfolding isValid isBorne
   by-filing h p q none e =
@@ -120,7 +146,8 @@ module _ (kit : Kit) (r : Room) (b : Bounds kit r) where
 
   -- the rules' validity
   pub valid-laid : (h p q : ℕ)
-      → isValidOn (layLedger (r .counter)) (layIssued (r .counter)) (layTable kit) (kit .leader) (switchLeader kit) (r .submitted) (layHeads (r .histories)) (layLists (r .histories)) (length (r .histories)) h p q
+      → isValidOn (layLedger (r .counter)) (layIssued (r .counter)) (layTable kit) (kit .leader) (switchLeader kit) (r .submitted)
+      (layHeads (r .histories)) (layLists (r .histories)) (length (r .histories)) h p q
       ≡ isValidFiling kit r p q h (nth (r .histories) h)
   unfolding isValidOn
   valid-laid h p q =

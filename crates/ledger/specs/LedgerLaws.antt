@@ -105,7 +105,8 @@ module _ (g : ℕ → ℕ → List Content) (x m : ℕ) (hx : x < replicasMax) (
   unfolding layIssued
   issued-anew l = set-grid-of length g x m l hm
 
-  pub issue-laid : (c : Content) → length (g x m) < placesMax → issueOn (layLedger g) (layIssued g) x m c ≡ book (layLedger (put2 g x m (g x m ++ (c ∷ [])))) (layIssued (put2 g x m (g x m ++ (c ∷ []))))
+  pub issue-laid : (c : Content) → length (g x m) < placesMax
+      → issueOn (layLedger g) (layIssued g) x m c ≡ book (layLedger (put2 g x m (g x m ++ (c ∷ [])))) (layIssued (put2 g x m (g x m ++ (c ∷ []))))
   unfolding issueOn
   issue-laid c room =
       let l = g x m ++ (c ∷ []) in

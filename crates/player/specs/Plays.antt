@@ -44,7 +44,13 @@ freshParts replicas =
 pub fresh-laid-out : (kit : Kit) → freshParts (layReplicas (freshRoom kit .replica)) ≡ layRoom (freshRoom kit) 0
 unfolding layRoom freshRoom layDesk freshDesk layHeads layLists
 fresh-laid-out kit =
-    rw (pad-nil requestsMax, fresh-ledger, fresh-issued, tab-constant {A = List ℕ} historiesMax (0 ∷ 0 ∷ 0 ∷ []), tab-constant {A = List ℕ} historiesMax (replicate requestsMax 0))
+    rw (
+      pad-nil requestsMax,
+      fresh-ledger,
+      fresh-issued,
+      tab-constant {A = List ℕ} historiesMax (0 ∷ 0 ∷ 0 ∷ []),
+      tab-constant {A = List ℕ} historiesMax (replicate requestsMax 0),
+    )
 
 -- before the first event
 pub record Fresh (bytes : List ℕ) (kit : Kit) (s : Stage) : Type 0 where

@@ -32,7 +32,21 @@ use Rattle.carry_out.specs.Done.{doneOn}
 use Rattle.player.specs.Turn.{Stage, noReplica, turnOn, turnsFrom, stage}
 
 -- a turn whose steps' results are what their definitions say of the results before them
-module _ (bytes : List ℕ) (roles : Roles) (table : List ℕ) (k : ℕ) (s : Stage) {e : Next} {list : List ℕ} {desk : Desk} {me : ℕ} {d : Decision} {answer : ℕ} {n : Entered} {c : Desk} (he : e ≡ nextIn bytes (s .at)) (hl : list ≡ listAfter bytes (s .at) (s .list)) (hd : desk ≡ tickOn (s .parts .desk) (e .gap) roles table (s .parts .requests) (s .parts .ticks) (s .parts .ledger) (s .parts .issued)) (hm : me ≡ concernedIn (e .event) roles) (hc : d ≡ decideOn (e .event) (standingOf (getD (s .parts .replicas) me noReplica)) desk roles (getD (s .parts .replicas) me noReplica .noted) (getD (s .parts .replicas) me noReplica .marks) (getD (s .parts .replicas) me noReplica .accepted) table (s .parts .requests) (s .parts .heads) (s .parts .lists) (s .parts .ledger) (s .parts .issued)) (ha : answer ≡ answerNumber (answerOf d)) (hn : n ≡ enterOn d desk (getD (s .parts .replicas) me noReplica .noted) (getD (s .parts .replicas) me noReplica .count) list (e .count) (submissions (s .parts .requests) (s .parts .ticks)) (filings (s .parts .heads) (s .parts .lists))) (hk : c ≡ countedOn desk d) where
+module _ (bytes : List ℕ) (roles : Roles) (table : List ℕ) (k : ℕ) (s : Stage)
+    {e : Next} {list : List ℕ} {desk : Desk} {me : ℕ} {d : Decision} {answer : ℕ} {n : Entered} {c : Desk}
+    (he : e ≡ nextIn bytes (s .at))
+    (hl : list ≡ listAfter bytes (s .at) (s .list))
+    (hd : desk ≡ tickOn (s .parts .desk) (e .gap) roles table (s .parts .requests) (s .parts .ticks) (s .parts .ledger) (s .parts .issued))
+    (hm : me ≡ concernedIn (e .event) roles)
+    (hc : d
+    ≡ decideOn (e .event) (standingOf (getD (s .parts .replicas) me noReplica)) desk roles (getD (s .parts .replicas) me noReplica .noted)
+    (getD (s .parts .replicas) me noReplica .marks) (getD (s .parts .replicas) me noReplica .accepted) table (s .parts .requests)
+    (s .parts .heads) (s .parts .lists) (s .parts .ledger) (s .parts .issued))
+    (ha : answer ≡ answerNumber (answerOf d))
+    (hn : n
+    ≡ enterOn d desk (getD (s .parts .replicas) me noReplica .noted) (getD (s .parts .replicas) me noReplica .count) list (e .count)
+    (submissions (s .parts .requests) (s .parts .ticks)) (filings (s .parts .heads) (s .parts .lists)))
+    (hk : c ≡ countedOn desk d) where
   pub turn-made
       : {a : Applied}
       → a

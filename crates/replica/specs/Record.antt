@@ -32,27 +32,87 @@ freshRecord faulty =
 
 abbrev pub withNoted : Replica → List ℕ → ℕ → Replica
 withNoted p noted count =
-    record { condition = p .condition; noted = noted; count = count; marks = p .marks; pairs = p .pairs; mark = p .mark; accepted = p .accepted; holding = p .holding; held = p .held }
+    record {
+      condition = p .condition;
+      noted = noted;
+      count = count;
+      marks = p .marks;
+      pairs = p .pairs;
+      mark = p .mark;
+      accepted = p .accepted;
+      holding = p .holding;
+      held = p .held;
+    }
 
 abbrev pub withPairs : Replica → List ℕ → ℕ → Replica
 withPairs p marks pairs =
-    record { condition = p .condition; noted = p .noted; count = p .count; marks = marks; pairs = pairs; mark = p .mark; accepted = p .accepted; holding = p .holding; held = p .held }
+    record {
+      condition = p .condition;
+      noted = p .noted;
+      count = p .count;
+      marks = marks;
+      pairs = pairs;
+      mark = p .mark;
+      accepted = p .accepted;
+      holding = p .holding;
+      held = p .held;
+    }
 
 abbrev pub withAccepted : Replica → List ℕ → Replica
 withAccepted p accepted =
-    record { condition = p .condition; noted = p .noted; count = p .count; marks = p .marks; pairs = p .pairs; mark = p .mark; accepted = accepted; holding = p .holding; held = p .held }
+    record {
+      condition = p .condition;
+      noted = p .noted;
+      count = p .count;
+      marks = p .marks;
+      pairs = p .pairs;
+      mark = p .mark;
+      accepted = accepted;
+      holding = p .holding;
+      held = p .held;
+    }
 
 abbrev pub withCondition : Replica → Condition → Replica
 withCondition p condition =
-    record { condition = condition; noted = p .noted; count = p .count; marks = p .marks; pairs = p .pairs; mark = p .mark; accepted = p .accepted; holding = p .holding; held = p .held }
+    record {
+      condition = condition;
+      noted = p .noted;
+      count = p .count;
+      marks = p .marks;
+      pairs = p .pairs;
+      mark = p .mark;
+      accepted = p .accepted;
+      holding = p .holding;
+      held = p .held;
+    }
 
 unfoldable pub markOn : Replica → ℕ → Replica
 markOn p mark =
-    record { condition = p .condition; noted = p .noted; count = p .count; marks = p .marks; pairs = p .pairs; mark = mark; accepted = p .accepted; holding = p .holding; held = p .held }
+    record {
+      condition = p .condition;
+      noted = p .noted;
+      count = p .count;
+      marks = p .marks;
+      pairs = p .pairs;
+      mark = mark;
+      accepted = p .accepted;
+      holding = p .holding;
+      held = p .held;
+    }
 
 unfoldable pub holdOn : Replica → ℕ → Replica
 holdOn p history =
-    record { condition = p .condition; noted = p .noted; count = p .count; marks = p .marks; pairs = p .pairs; mark = p .mark; accepted = p .accepted; holding = true; held = history }
+    record {
+      condition = p .condition;
+      noted = p .noted;
+      count = p .count;
+      marks = p .marks;
+      pairs = p .pairs;
+      mark = p .mark;
+      accepted = p .accepted;
+      holding = true;
+      held = history;
+    }
 
 -- ---- the steps
 

@@ -36,12 +36,20 @@ module _ (p : Rules.Replica) where
       let grown : length (p .noted) + 1 ≡ length (p .noted ++ (q ∷ [])) = omega (arith, length-snoc (p .noted) q) in
       rw (lt-leb requestsMax (length (p .noted)) room, set-pad requestsMax (p .noted) q room, grown)
 
-  pub note-pair-laid : (q m : ℕ) → length (p .noted) < requestsMax → length (p .pairMarks) < requestsMax → notePairOn (layReplica p) q m ≡ layReplica (Rules.notePair p q m)
+  pub note-pair-laid : (q m : ℕ) → length (p .noted) < requestsMax → length (p .pairMarks) < requestsMax
+      → notePairOn (layReplica p) q m ≡ layReplica (Rules.notePair p q m)
   unfolding layReplica notePairOn Rules.notePair
   note-pair-laid q m room more =
       let grown : length (p .noted) + 1 ≡ length (p .noted ++ (q ∷ [])) = omega (arith, length-snoc (p .noted) q) in
       let paired : length (p .pairMarks) + 1 ≡ length (p .pairMarks ++ (m ∷ [])) = omega (arith, length-snoc (p .pairMarks) m) in
-      rw (lt-leb requestsMax (length (p .noted)) room, lt-leb requestsMax (length (p .pairMarks)) more, set-pad requestsMax (p .noted) q room, set-pad requestsMax (p .pairMarks) m more, grown, paired)
+      rw (
+        lt-leb requestsMax (length (p .noted)) room,
+        lt-leb requestsMax (length (p .pairMarks)) more,
+        set-pad requestsMax (p .noted) q room,
+        set-pad requestsMax (p .pairMarks) m more,
+        grown,
+        paired,
+      )
 
   pub accept-laid : (s m v : ℕ) → s < replicasMax → m < names → acceptOn (layReplica p) s m v ≡ layReplica (Rules.accept p s m v)
   unfolding layReplica acceptOn Rules.accept
@@ -102,7 +110,8 @@ unfolding pad
 actives-laid l = actives-then-zeros (replicasMax - length l) l 0
 
 -- only what is seen of the table's replicas counts
-least-ext : (l : List ℕ) (x : ℕ) (g h : ℕ → ℕ) (d : ℕ) → ((y : ℕ) → y < x + length l → g y ≡ h y) → leastOver (activesFrom l x) g d ≡ leastOver (activesFrom l x) h d
+least-ext : (l : List ℕ) (x : ℕ) (g h : ℕ → ℕ) (d : ℕ) → ((y : ℕ) → y < x + length l → g y ≡ h y)
+    → leastOver (activesFrom l x) g d ≡ leastOver (activesFrom l x) h d
 least-ext [] x g h d e = refl
 least-ext (k ∷ l) x g h d e =
     let rest = least-ext l (suc x) g h d (λ y b. e y (omega arith)) in
@@ -121,13 +130,16 @@ count-ext zero s t e = refl
 count-ext (suc n) s t e = rw (e n (omega arith), count-ext n s t (λ y h. e y (omega arith)))
 
 module _ (kit : Kit) (p : Rules.Replica) (small : length (kit .table) ≤ replicasMax) where
-  least-laid : (x own : ℕ) → leastSeen (pad replicasMax (kit .table)) (layReplica p .accepted) (isActive kit x) x own (pick (isActive kit x) own (p .accepted (kit .leader) up)) ≡ settledCount kit x p own
+  least-laid : (x own : ℕ)
+      → leastSeen (pad replicasMax (kit .table)) (layReplica p .accepted) (isActive kit x) x own (pick (isActive kit x) own (p .accepted (kit .leader) up))
+      ≡ settledCount kit x p own
   unfolding leastSeen settledCount actives
   least-laid x own =
       rw (actives-laid (kit .table))
       (least-ext (kit .table) 0 _ _ _ (λ y b. rw (accepted-laid p y 0 (omega arith) (omega arith), accepted-laid p y 1 (omega arith) (omega arith))))
 
-  pub settled-laid : (x own : ℕ) → kit .leader < replicasMax → settledIn (layReplica p .accepted) (pad replicasMax (kit .table)) (kit .leader) x own ≡ settledCount kit x p own
+  pub settled-laid : (x own : ℕ) → kit .leader < replicasMax
+      → settledIn (layReplica p .accepted) (pad replicasMax (kit .table)) (kit .leader) x own ≡ settledCount kit x p own
   unfolding settledIn
   settled-laid x own below = rw (active-laid kit x, accepted-laid p (kit .leader) up below (omega arith)) (least-laid x own)
 

@@ -28,7 +28,8 @@ nth-snoc-other (x ∷ xs) a zero ne = refl
 nth-snoc-other (x ∷ xs) a (suc i) ne = nth-snoc-other xs a i (λ e. ne (ap suc e))
 
 -- rows laid out by place: one more is stored at the end
-rows-snoc : {A B : Type 0} (n : ℕ) (f : Option A → B) (l : List A) (a : A) → set (tab n (λ i. f (nth l i))) (length l) (f (some a)) ≡ tab n (λ i. f (nth (l ++ (a ∷ [])) i))
+rows-snoc : {A B : Type 0} (n : ℕ) (f : Option A → B) (l : List A) (a : A)
+    → set (tab n (λ i. f (nth l i))) (length l) (f (some a)) ≡ tab n (λ i. f (nth (l ++ (a ∷ [])) i))
 rows-snoc n f l a =
     set-tab n (λ i. f (nth l i)) (length l) (f (some a))
     ∙ tab-ext n _ _ (λ i h. split (eqb i (length l))

@@ -71,7 +71,8 @@ module _ (kit : Kit) (r : Room) (b : Bounds kit r) where
   -- the list of history h, where there is one
   list-shown : (h : ℕ) (o : Option Filing) → nth (r .histories) h ≡ o
       → settledShown
-      (pick (ltb h historiesMax) (record { requests = getD (layLists (r .histories)) h []; count = getD (getD (layHeads (r .histories)) h []) 2 0 }) nothingSettled)
+      (pick (ltb h historiesMax) (record { requests = getD (layLists (r .histories)) h []; count = getD (getD (layHeads (r .histories)) h []) 2 0 })
+      nothingSettled)
       ≡ listOf o
   unfolding settledShown
   list-shown h none e = split (ltb h historiesMax) (λ t. rw (t, head-laid (r .histories) h (ltb-true h historiesMax t), e)) (λ t. rw t)

@@ -10,4 +10,11 @@ accept-pair-spec =
     tie.close
     (tie.spec
     (λ c κs. search needs) (λ c κs. search needs) (λ c κs. search needs) (λ c κs. search needs)
-    (λ c. rw (← c .before .before .before .before .before .before .before .accept .ensures, ← c .before .before .before .settled-count .ensures, ← c .before .mark-of-pair .ensures, ← c .with-mark .ensures)))
+    (λ c. let after-settled-count = c .before .before .before in
+    let after-accept = after-settled-count .before .before .before .before in
+    rw (
+      c .with-mark .ensures,
+      c .before .mark-of-pair .ensures,
+      after-settled-count .settled-count .ensures,
+      after-accept .accept .ensures,
+    )))

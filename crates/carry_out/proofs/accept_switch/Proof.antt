@@ -13,4 +13,12 @@ accept-switch-spec =
     (λ c κs. search needs) (λ c κs. search needs)
     (λ c. rw (← c .before .before .before .before .accept .ensures, ← c .before .switches .ensures, lt-ltb _ _ (c .if1 .taken)))
     (λ c κs. search needs) (λ c κs. search needs)
-    (λ c. rw (← c .before .before .before .before .before .before .accept .ensures, ← c .before .before .before .switches .ensures, le-ltb _ _ (c .before .before .if1 .left), ← c .before .held-mark .ensures, ← c .closed .ensures)))
+    (λ c. let after-switches = c .before .before .before in
+    let after-accept = after-switches .before .before .before in
+    rw (
+      ← after-accept .accept .ensures,
+      ← after-switches .switches .ensures,
+      le-ltb _ _ (c .before .before .if1 .left),
+      ← c .before .held-mark .ensures,
+      ← c .closed .ensures,
+    )))

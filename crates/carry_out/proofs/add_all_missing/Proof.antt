@@ -23,5 +23,6 @@ add-all-missing-spec =
     (λ c. record { rest = refl })
     (λ c. appended-end (c .before .before .loop .inv) (c .if1 .taken))
     (λ c. search needs) (λ c. search needs) (λ c κs. search needs) (λ c. search needs) (λ c. search needs)
-    (λ c. rw (c .add-missing .ensures) (next-appended (c .before .before .before .before .before .loop .inv) (c .before .before .before .before .loop-test .taken) (search needs)))
+    (λ c. let tested = c .before .before .before .before in
+    rw (c .add-missing .ensures) (next-appended (tested .before .loop .inv) (tested .loop-test .taken) (search needs)))
     (λ c. appended-count (c .before .loop .inv) (c .loop-test .left)))

@@ -12,4 +12,7 @@ build-spec =
     (tie.spec
     (λ c. rw (le-leb _ _ (c .if1 .taken)))
     (λ c. search needs) (λ c κs. search needs) (λ c κs. search needs) (λ c κs. search needs)
-    (λ c. rw (lt-leb _ _ (c .before .before .before .before .before .before .before .before .before .if1 .left), ← c .before .before .before .before .before .before .issue .ensures, ← c .before .before .before .issue2 .ensures, ← c .hand .ensures)))
+    (λ c. let after-issue2 = c .before .before .before in
+    let after-issue = after-issue2 .before .before .before in
+    let tested = after-issue .before .before .before in
+    rw (lt-leb _ _ (tested .if1 .left), ← after-issue .issue .ensures, ← after-issue2 .issue2 .ensures, ← c .hand .ensures)))

@@ -10,4 +10,13 @@ commit-spec =
     tie.close
     (tie.spec
     (λ c κs. search needs) (λ c κs. search needs) (λ c κs. search needs) (λ c κs. search needs) (λ c κs. search needs)
-    (λ c. rw (← c .before .before .before .before .before .before .before .before .before .before .total .ensures, ← c .before .before .before .before .before .before .before .settled-count .ensures, ← c .before .before .before .before .before .before .accept .ensures, ← c .before .before .before .settled-count2 .ensures, ← c .settle .ensures)))
+    (λ c. let after-settled-count2 = c .before .before .before in
+    let after-accept = after-settled-count2 .before .before .before in
+    let after-total = after-accept .before .before .before .before in
+    rw (
+      c .settle .ensures,
+      after-settled-count2 .settled-count2 .ensures,
+      after-accept .accept .ensures,
+      after-accept .before .settled-count .ensures,
+      after-total .total .ensures,
+    )))

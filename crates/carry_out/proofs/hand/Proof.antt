@@ -10,4 +10,4 @@ hand-spec =
     tie.close
     (tie.spec
     (λ c κs. search needs) (λ c κs. search needs)
-    (λ c. rw (← c .before .issue .ensures, ← c .held .ensures)))
+    (λ c. rw (c .held .ensures, c .before .issue .ensures)))

@@ -13,5 +13,6 @@ held-mark-spec =
     (λ c κs. search needs)
     (λ c. rw (← c .before .before .index .ensures, c .before .if1 .taken, le-leb _ _ (c .if2 .taken)))
     (λ c. search needs) (λ c. search needs) (λ c. search needs) (λ c. search needs) (λ c. search needs) (λ c κs. search needs)
-    (λ c. rw (← c .before .before .before .before .before .index .ensures, c .before .before .before .before .if1 .taken, lt-leb _ _ (c .before .before .before .if2 .left), ← c .mark-of .ensures))
+    (λ c. let tested2 = c .before .before .before in
+    rw (← tested2 .before .before .index .ensures, tested2 .before .if1 .taken, lt-leb _ _ (tested2 .if2 .left), ← c .mark-of .ensures))
     (λ c. rw (← c .before .index .ensures, c .if1 .left)))

@@ -8,4 +8,4 @@ issue-freely-spec =
     tie.close
     (tie.spec
     (λ c κs. search needs)
-    (λ c. rw (← c .issue .ensures)))
+    (λ c. rw (c .issue .ensures)))

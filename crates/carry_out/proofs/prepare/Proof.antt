@@ -11,4 +11,18 @@ prepare-spec =
     (tie.spec
     (λ c κs. search needs) (λ c κs. search needs) (λ c κs. search needs) (λ c κs. search needs) (λ c κs. search needs)
     (λ c κs. search needs) (λ c κs. search needs) (λ c κs. search needs)
-    (λ c. rw (← c .before .before .before .before .before .before .before .before .before .before .before .before .before .before .total .ensures, ← c .before .before .before .before .before .before .before .before .before .before .before .before .before .settled-count .ensures, ← c .before .before .before .before .before .before .before .before .before .before .before .before .noted .ensures, ← c .before .before .before .before .before .before .before .before .before .before .before .accept .ensures, ← c .before .before .before .before .before .before .before .before .issue .ensures, ← c .before .before .before .before .total2 .ensures, ← c .before .before .before .settled-count2 .ensures, ← c .settle .ensures)))
+    (λ c. let after-settled-count2 = c .before .before .before in
+    let after-total2 = after-settled-count2 .before in
+    let after-issue = after-total2 .before .before .before .before in
+    let after-accept = after-issue .before .before .before in
+    let after-total = after-accept .before .before .before in
+    rw (
+      ← after-total .total .ensures,
+      ← after-accept .before .before .settled-count .ensures,
+      ← after-accept .before .noted .ensures,
+      ← after-accept .accept .ensures,
+      ← after-issue .issue .ensures,
+      ← after-total2 .total2 .ensures,
+      ← after-settled-count2 .settled-count2 .ensures,
+      ← c .settle .ensures,
+    )))

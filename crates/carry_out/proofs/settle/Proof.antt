@@ -11,5 +11,13 @@ settle-spec =
     tie.close
     (tie.spec
     (λ c κs. search needs) (λ c κs. search needs) (λ c κs. search needs) (λ c κs. search needs)
-    (λ c. rw (lt-ltb _ _ (c .before .before .before .before .before .before .before .before .if1 .taken), ← c .before .before .before .before .before .request-at .ensures, ← c .before .before .before .before .next-mark .ensures, ← c .before .issue .ensures, ← c .with-mark .ensures))
+    (λ c. let after-next-mark = c .before .before .before .before in
+    let tested = after-next-mark .before .before .before .before in
+    rw (
+      lt-ltb _ _ (tested .if1 .taken),
+      ← after-next-mark .before .request-at .ensures,
+      ← after-next-mark .next-mark .ensures,
+      ← c .before .issue .ensures,
+      ← c .with-mark .ensures,
+    ))
     (λ c. rw (le-ltb _ _ (c .if1 .left))))

@@ -1,4 +1,4 @@
--- `answered`: no value above this one answers the request. Assumes nothing.
+-- `answered`: no value above this one answers the request, so that those up to it decide. Assumes nothing.
 use borrow.Author.Needs.{needs}
 use mathlib.Core.Path.{refl}
 use Rattle.clock.specs.AnsweredOn.{answeredOn, answeredAtOn}

@@ -8,7 +8,8 @@ use Rattle.clock.proofs.first_open.Statement.{statement}
 use Rattle.clock.proofs.first_open.Tie as tie
 
 abbrev Inv-loop : tie.InvT-loop
-Inv-loop known submitted clock roles table requests ticks ledger issued i₀ i = Searching (passed clock roles table requests ticks ledger issued) known submitted i
+Inv-loop known submitted clock roles table requests ticks ledger issued i₀ i =
+    Searching (passed clock roles table requests ticks ledger issued) known submitted i
 
 abbrev μ-loop : tie.MeasureT-loop
 μ-loop known submitted clock roles table requests ticks ledger issued i₀ i = submitted - i

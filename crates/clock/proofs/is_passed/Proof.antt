@@ -12,5 +12,7 @@ is-passed-spec =
     (tie.spec
     (λ c. rw (le-ltb _ _ (c .if1 .taken)))
     (λ c. search needs) (λ c. search needs) (λ c κs. search needs) (λ c. search needs) (λ c. search needs) (λ c κs. search needs)
-    (λ c. rw (lt-ltb _ _ (c .before .before .before .before .before .if1 .left), ← c .before .before .before .is-due .ensures, c .before .before .if2 .taken, ← c .answered .ensures))
+    (λ c. let after-is-due = c .before .before .before in
+    rw
+    (lt-ltb _ _ (after-is-due .before .before .if1 .left), ← after-is-due .is-due .ensures, c .before .before .if2 .taken, ← c .answered .ensures))
     (λ c. rw (lt-ltb _ _ (c .before .before .before .if1 .left), ← c .before .is-due .ensures, c .if2 .left)))

@@ -13,8 +13,46 @@ tick-spec =
     (λ c κs. search needs) (λ c κs. search needs)
     (λ c. rw (← c .before .before .wide .ensures, ← c .before .wrapping-add-u64 .ensures, c .if1 .taken))
     (λ c κs. search needs)
-    (λ c. rw (← c .before .before .before .before .wide .ensures, ← c .before .before .before .wrapping-add-u64 .ensures, c .before .before .if1 .left, ← c .before .first-open .ensures, le-ltb _ _ (c .if2 .taken)))
-    (λ c. rw (← c .before .before .before .before .before .wide .ensures, ← c .before .before .before .before .wrapping-add-u64 .ensures, c .before .before .before .if1 .left, ← c .before .before .first-open .ensures, lt-ltb _ _ (c .before .if2 .left), le-ltb _ _ (c .if3 .taken)))
+    (λ c. rw (
+      ← c .before .before .before .before .wide .ensures,
+      ← c .before .before .before .wrapping-add-u64 .ensures,
+      c .before .before .if1 .left,
+      ← c .before .first-open .ensures,
+      le-ltb _ _ (c .if2 .taken),
+    ))
+    (λ c. let tested = c .before .before .before in
+    rw (
+      ← tested .before .before .wide .ensures,
+      ← tested .before .wrapping-add-u64 .ensures,
+      tested .if1 .left,
+      ← c .before .before .first-open .ensures,
+      lt-ltb _ _ (c .before .if2 .left),
+      le-ltb _ _ (c .if3 .taken),
+    ))
     (λ c. search needs) (λ c. search needs) (λ c κs. search needs) (λ c. search needs) (λ c. search needs) (λ c κs. search needs)
-    (λ c. rw (← c .before .before .before .before .before .before .before .before .before .before .wide .ensures, ← c .before .before .before .before .before .before .before .before .before .wrapping-add-u64 .ensures, c .before .before .before .before .before .before .before .before .if1 .left, ← c .before .before .before .before .before .before .before .first-open .ensures, lt-ltb _ _ (c .before .before .before .before .before .before .if2 .left), lt-ltb _ _ (c .before .before .before .before .before .if3 .left), ← c .before .before .before .is-due .ensures, c .before .before .if4 .taken, ← c .due-at .ensures))
-    (λ c. rw (← c .before .before .before .before .before .before .before .before .wide .ensures, ← c .before .before .before .before .before .before .before .wrapping-add-u64 .ensures, c .before .before .before .before .before .before .if1 .left, ← c .before .before .before .before .before .first-open .ensures, lt-ltb _ _ (c .before .before .before .before .if2 .left), lt-ltb _ _ (c .before .before .before .if3 .left), ← c .before .is-due .ensures, c .if4 .left)))
+    (λ c. let after-is-due = c .before .before .before in
+    let tested2 = after-is-due .before .before .before in
+    let after-wrapping-add-u64 = tested2 .before .before .before in
+    rw (
+      c .due-at .ensures,
+      ← after-wrapping-add-u64 .before .wide .ensures,
+      ← after-wrapping-add-u64 .wrapping-add-u64 .ensures,
+      tested2 .before .before .if1 .left,
+      ← tested2 .before .first-open .ensures,
+      lt-ltb _ _ (tested2 .if2 .left),
+      lt-ltb _ _ (after-is-due .before .before .if3 .left),
+      ← after-is-due .is-due .ensures,
+      c .before .before .if4 .taken,
+    ))
+    (λ c. let tested3 = c .before .before .before in
+    let tested = tested3 .before .before .before in
+    rw (
+      ← tested .before .before .wide .ensures,
+      ← tested .before .wrapping-add-u64 .ensures,
+      tested .if1 .left,
+      ← tested3 .before .before .first-open .ensures,
+      lt-ltb _ _ (tested3 .before .if2 .left),
+      lt-ltb _ _ (tested3 .if3 .left),
+      ← c .before .is-due .ensures,
+      c .if4 .left,
+    )))

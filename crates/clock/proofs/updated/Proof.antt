@@ -1,4 +1,4 @@
--- `updated`: every active replica before y has it. Assumes nothing.
+-- `updated`: every active replica before y has the UPDATE, so that those from y on decide. Assumes nothing.
 use borrow.Author.Needs.{needs}
 use mathlib.Core.Path.{refl, sym, _∙_}
 use Prim.Native.Nat.{_-_}
@@ -30,5 +30,6 @@ updated-spec =
     fails (at-y .before .before .loop .inv) (at-y .before .loop-test .taken) (sym (looked .marks-active .ensures) ∙ c .before .before .if1 .taken)
     (sym (c .before .is-content .ensures) ∙ c .if2 .left))
     (λ c. search needs) (λ c. search needs)
-    (λ c. next-passive (c .before .before .before .before .loop .inv) (c .before .before .before .loop-test .taken) (sym (c .before .marks-active .ensures) ∙ c .if1 .left))
+    (λ c. next-passive (c .before .before .before .before .loop .inv) (c .before .before .before .loop-test .taken)
+    (sym (c .before .marks-active .ensures) ∙ c .if1 .left))
     (λ c. all-pass (c .before .loop .inv) (c .loop-test .left)))

@@ -14,7 +14,23 @@ build-spec =
     (λ c. rw (← c .before .is-faulty .ensures, c .if1 .taken))
     (λ c κs. search needs)
     (λ c. rw (← c .before .before .before .is-faulty .ensures, c .before .before .if1 .left, ← c .before .is-running .ensures, c .if2 .taken))
-    (λ c. rw (← c .before .before .before .before .is-faulty .ensures, c .before .before .before .if1 .left, ← c .before .before .is-running .ensures, c .before .if2 .left, c .if3 .taken))
+    (λ c. rw (
+      ← c .before .before .before .before .is-faulty .ensures,
+      c .before .before .before .if1 .left,
+      ← c .before .before .is-running .ensures,
+      c .before .if2 .left,
+      c .if3 .taken,
+    ))
     (λ c κs. search needs)
     (λ c κs. search needs)
-    (λ c. rw (← c .before .before .before .before .before .before .is-faulty .ensures, c .before .before .before .before .before .if1 .left, ← c .before .before .before .before .is-running .ensures, c .before .before .before .if2 .left, c .before .before .if3 .left, ← c .before .total .ensures, ← c .settled-count .ensures)))
+    (λ c. let tested2 = c .before .before .before in
+    let after-is-faulty = tested2 .before .before .before in
+    rw (
+      ← after-is-faulty .is-faulty .ensures,
+      tested2 .before .before .if1 .left,
+      ← tested2 .before .is-running .ensures,
+      tested2 .if2 .left,
+      c .before .before .if3 .left,
+      ← c .before .total .ensures,
+      ← c .settled-count .ensures,
+    )))

@@ -14,6 +14,22 @@ commit-spec =
     (λ c κs. search needs)
     (λ c κs. search needs)
     (λ c κs. search needs)
-    (λ c. rw (← c .before .before .before .before .before .is-noted .ensures, c .before .before .before .before .if1 .taken, ← c .before .before .before .place-of .ensures, ← c .before .before .entry .ensures, ← c .before .is-same .ensures, c .if2 .taken))
-    (λ c. rw (← c .before .before .before .before .before .is-noted .ensures, c .before .before .before .before .if1 .taken, ← c .before .before .before .place-of .ensures, ← c .before .before .entry .ensures, ← c .before .is-same .ensures, c .if2 .left))
+    (λ c. let after-place-of = c .before .before .before in
+    rw (
+      ← after-place-of .before .before .is-noted .ensures,
+      after-place-of .before .if1 .taken,
+      ← after-place-of .place-of .ensures,
+      ← c .before .before .entry .ensures,
+      ← c .before .is-same .ensures,
+      c .if2 .taken,
+    ))
+    (λ c. let after-place-of = c .before .before .before in
+    rw (
+      ← after-place-of .before .before .is-noted .ensures,
+      after-place-of .before .if1 .taken,
+      ← after-place-of .place-of .ensures,
+      ← c .before .before .entry .ensures,
+      ← c .before .is-same .ensures,
+      c .if2 .left,
+    ))
     (λ c. rw (← c .before .is-noted .ensures, c .if1 .left)))

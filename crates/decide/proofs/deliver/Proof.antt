@@ -16,5 +16,17 @@ deliver-spec =
     (λ c. search needs)
     (λ c κs. search needs)
     (λ c. search needs)
-    (λ c. rw (← c .before .before .before .before .before .before .is-faulty .ensures, c .before .before .before .before .before .if1 .left, ← c .before .before .before .before .look-up .ensures, c .before .before .found .given .1, ← c .receive .ensures))
-    (λ c. rw (← c .before .before .before .before .is-faulty .ensures, c .before .before .before .if1 .left, ← c .before .before .look-up .ensures, c .enum-told .given .1)))
+    (λ c. let after-look-up = c .before .before .before .before in
+    rw (
+      ← after-look-up .before .before .is-faulty .ensures,
+      after-look-up .before .if1 .left,
+      ← after-look-up .look-up .ensures,
+      c .before .before .found .given .1,
+      ← c .receive .ensures,
+    ))
+    (λ c. rw (
+      ← c .before .before .before .before .is-faulty .ensures,
+      c .before .before .before .if1 .left,
+      ← c .before .before .look-up .ensures,
+      c .enum-told .given .1,
+    )))

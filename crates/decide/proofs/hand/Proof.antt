@@ -20,6 +20,34 @@ hand-spec =
     (λ c κs. search needs)
     (λ c. search needs)
     (λ c. search needs)
-    (λ c. rw (← c .before .before .before .before .before .before .before .before .before .before .is-faulty .ensures, c .before .before .before .before .before .before .before .before .before .if1 .left, ← c .before .before .before .before .before .before .before .before .look-up .ensures, ← c .before .before .before .before .before .before .before .look-up2 .ensures, c .before .before .before .before .before .first .given .1, c .before .before .enum-told .given .1, ← c .before .first-of .ensures, ← c .hold .ensures))
-    (λ c. rw (← c .before .before .before .before .before .before .before .before .is-faulty .ensures, c .before .before .before .before .before .before .before .if1 .left, ← c .before .before .before .before .before .before .look-up .ensures, ← c .before .before .before .before .before .look-up2 .ensures, c .before .before .before .first .given .1, c .enum-told2 .given .1))
-    (λ c. rw (← c .before .before .before .before .before .is-faulty .ensures, c .before .before .before .before .if1 .left, ← c .before .before .before .look-up .ensures, ← c .before .before .look-up2 .ensures, c .enum-told3 .given .1)))
+    (λ c. let told = c .before .before in
+    let after-first = told .before .before .before in
+    let after-look-up = after-first .before .before .before in
+    rw (
+      ← after-look-up .before .before .is-faulty .ensures,
+      after-look-up .before .if1 .left,
+      ← after-look-up .look-up .ensures,
+      ← after-first .before .before .look-up2 .ensures,
+      after-first .first .given .1,
+      told .enum-told .given .1,
+      ← c .before .first-of .ensures,
+      ← c .hold .ensures,
+    ))
+    (λ c. let after-first = c .before .before .before in
+    let after-look-up = after-first .before .before .before in
+    rw (
+      ← after-look-up .before .before .is-faulty .ensures,
+      after-look-up .before .if1 .left,
+      ← after-look-up .look-up .ensures,
+      ← after-first .before .before .look-up2 .ensures,
+      after-first .first .given .1,
+      c .enum-told2 .given .1,
+    ))
+    (λ c. let after-look-up = c .before .before .before in
+    rw (
+      ← after-look-up .before .before .is-faulty .ensures,
+      after-look-up .before .if1 .left,
+      ← after-look-up .look-up .ensures,
+      ← c .before .before .look-up2 .ensures,
+      c .enum-told3 .given .1,
+    )))

@@ -15,6 +15,22 @@ issue-spec =
     (λ c κs. search needs)
     (λ c. rw (← c .before .before .before .is-faulty .ensures, c .before .before .if1 .taken, ← c .before .names-unfiled .ensures, c .if2 .taken))
     (λ c κs. search needs)
-    (λ c. rw (← c .before .before .before .before .before .is-faulty .ensures, c .before .before .before .before .if1 .taken, ← c .before .before .before .names-unfiled .ensures, c .before .before .if2 .left, ← c .before .total .ensures, le-leb _ _ (c .if3 .taken)))
-    (λ c. rw (← c .before .before .before .before .before .is-faulty .ensures, c .before .before .before .before .if1 .taken, ← c .before .before .before .names-unfiled .ensures, c .before .before .if2 .left, ← c .before .total .ensures, lt-leb _ _ (c .if3 .left)))
+    (λ c. let after-names-unfiled = c .before .before .before in
+    rw (
+      ← after-names-unfiled .before .before .is-faulty .ensures,
+      after-names-unfiled .before .if1 .taken,
+      ← after-names-unfiled .names-unfiled .ensures,
+      c .before .before .if2 .left,
+      ← c .before .total .ensures,
+      le-leb _ _ (c .if3 .taken),
+    ))
+    (λ c. let after-names-unfiled = c .before .before .before in
+    rw (
+      ← after-names-unfiled .before .before .is-faulty .ensures,
+      after-names-unfiled .before .if1 .taken,
+      ← after-names-unfiled .names-unfiled .ensures,
+      c .before .before .if2 .left,
+      ← c .before .total .ensures,
+      lt-leb _ _ (c .if3 .left),
+    ))
     (λ c. rw (← c .before .is-faulty .ensures, c .if1 .left)))

@@ -14,5 +14,17 @@ known-pair-spec =
     (λ c κs. search needs)
     (λ c κs. search needs)
     (λ c κs. search needs)
-    (λ c. rw (← c .before .before .before .before .place-of .ensures, ← c .before .before .before .entry .ensures, ← c .before .before .entry2 .ensures, ← c .before .is-same .ensures, c .if1 .taken))
-    (λ c. rw (← c .before .before .before .before .place-of .ensures, ← c .before .before .before .entry .ensures, ← c .before .before .entry2 .ensures, ← c .before .is-same .ensures, c .if1 .left)))
+    (λ c. rw (
+      ← c .before .before .before .before .place-of .ensures,
+      ← c .before .before .before .entry .ensures,
+      ← c .before .before .entry2 .ensures,
+      ← c .before .is-same .ensures,
+      c .if1 .taken,
+    ))
+    (λ c. rw (
+      ← c .before .before .before .before .place-of .ensures,
+      ← c .before .before .before .entry .ensures,
+      ← c .before .before .entry2 .ensures,
+      ← c .before .is-same .ensures,
+      c .if1 .left,
+    )))

@@ -14,6 +14,22 @@ new-pair-spec =
     (λ c κs. search needs)
     (λ c κs. search needs)
     (λ c κs. search needs)
-    (λ c. rw (← c .before .before .before .before .before .first-of .ensures, ← c .before .before .before .before .second-of .ensures, ← c .before .before .before .is-same .ensures, c .before .before .if1 .taken, ← c .before .is-new .ensures, c .if2 .taken))
-    (λ c. rw (← c .before .before .before .before .before .first-of .ensures, ← c .before .before .before .before .second-of .ensures, ← c .before .before .before .is-same .ensures, c .before .before .if1 .taken, ← c .before .is-new .ensures, c .if2 .left))
+    (λ c. let after-is-same = c .before .before .before in
+    rw (
+      ← after-is-same .before .before .first-of .ensures,
+      ← after-is-same .before .second-of .ensures,
+      ← after-is-same .is-same .ensures,
+      c .before .before .if1 .taken,
+      ← c .before .is-new .ensures,
+      c .if2 .taken,
+    ))
+    (λ c. let after-is-same = c .before .before .before in
+    rw (
+      ← after-is-same .before .before .first-of .ensures,
+      ← after-is-same .before .second-of .ensures,
+      ← after-is-same .is-same .ensures,
+      c .before .before .if1 .taken,
+      ← c .before .is-new .ensures,
+      c .if2 .left,
+    ))
     (λ c. rw (← c .before .before .before .first-of .ensures, ← c .before .before .second-of .ensures, ← c .before .is-same .ensures, c .if1 .left)))

@@ -16,8 +16,20 @@ on-content-spec =
     (λ c. rw (eq-eqb _ _ (c .before .before .if1 .taken), ne-eqb _ _ (c .before .if2 .left), ← c .commit .ensures))
     (λ c κs. search needs)
     (λ c κs. search needs)
-    (λ c. rw (ne-eqb _ _ (c .before .before .before .before .if1 .left), eq-eqb _ _ (c .before .before .before .if3 .taken), ← c .before .before .is-noted .ensures, c .before .if4 .taken, ← c .known-pair .ensures))
+    (λ c. rw (
+      ne-eqb _ _ (c .before .before .before .before .if1 .left),
+      eq-eqb _ _ (c .before .before .before .if3 .taken),
+      ← c .before .before .is-noted .ensures,
+      c .before .if4 .taken,
+      ← c .known-pair .ensures,
+    ))
     (λ c κs. search needs)
-    (λ c. rw (ne-eqb _ _ (c .before .before .before .before .if1 .left), eq-eqb _ _ (c .before .before .before .if3 .taken), ← c .before .before .is-noted .ensures, c .before .if4 .left, ← c .new-pair .ensures))
+    (λ c. rw (
+      ne-eqb _ _ (c .before .before .before .before .if1 .left),
+      eq-eqb _ _ (c .before .before .before .if3 .taken),
+      ← c .before .before .is-noted .ensures,
+      c .before .if4 .left,
+      ← c .new-pair .ensures,
+    ))
     (λ c κs. search needs)
     (λ c. rw (ne-eqb _ _ (c .before .before .if1 .left), ne-eqb _ _ (c .before .if3 .left), ← c .switch .ensures)))

@@ -13,6 +13,18 @@ prepare-spec =
     (λ c κs. search needs)
     (λ c κs. search needs)
     (λ c κs. search needs)
-    (λ c. rw (← c .before .before .before .before .first-of .ensures, ← c .before .before .before .is-same .ensures, c .before .before .if1 .taken, ← c .before .is-new .ensures, c .if2 .taken))
-    (λ c. rw (← c .before .before .before .before .first-of .ensures, ← c .before .before .before .is-same .ensures, c .before .before .if1 .taken, ← c .before .is-new .ensures, c .if2 .left))
+    (λ c. rw (
+      ← c .before .before .before .before .first-of .ensures,
+      ← c .before .before .before .is-same .ensures,
+      c .before .before .if1 .taken,
+      ← c .before .is-new .ensures,
+      c .if2 .taken,
+    ))
+    (λ c. rw (
+      ← c .before .before .before .before .first-of .ensures,
+      ← c .before .before .before .is-same .ensures,
+      c .before .before .if1 .taken,
+      ← c .before .is-new .ensures,
+      c .if2 .left,
+    ))
     (λ c. rw (← c .before .before .first-of .ensures, ← c .before .is-same .ensures, c .if1 .left)))

@@ -11,5 +11,5 @@ is-content-spec =
     (λ c. search needs)
     (λ c κs. search needs)
     (λ c. search needs)
-    (λ c. rw (← c .before .before .before .before .look-up .ensures, c .before .before .found .given .1, ← c .is-same .ensures))
+    (λ c. rw (c .is-same .ensures, ← c .before .before .before .before .look-up .ensures, c .before .before .found .given .1))
     (λ c. rw (← c .before .before .look-up .ensures, c .enum-told .given .1)))

@@ -17,7 +17,17 @@ is-same-spec =
     (λ c. rw (← c .before .before .numbers-of-content .ensures, ← c .before .numbers-of-content2 .ensures, ne-eqb _ _ (c .if1 .taken)))
     (λ c. search needs)
     (λ c. search needs)
-    (λ c. rw (← c .before .before .before .numbers-of-content .ensures, ← c .before .before .numbers-of-content2 .ensures, eq-eqb _ _ (c .before .if1 .left), ne-eqb _ _ (c .if2 .taken)))
+    (λ c. rw (
+      ← c .before .before .before .numbers-of-content .ensures,
+      ← c .before .before .numbers-of-content2 .ensures,
+      eq-eqb _ _ (c .before .if1 .left),
+      ne-eqb _ _ (c .if2 .taken),
+    ))
     (λ c. search needs)
     (λ c. search needs)
-    (λ c. rw (← c .before .before .before .numbers-of-content .ensures, ← c .before .before .numbers-of-content2 .ensures, eq-eqb _ _ (c .before .if1 .left), eq-eqb _ _ (c .if2 .left))))
+    (λ c. rw (
+      ← c .before .before .before .numbers-of-content .ensures,
+      ← c .before .before .numbers-of-content2 .ensures,
+      eq-eqb _ _ (c .before .if1 .left),
+      eq-eqb _ _ (c .if2 .left),
+    )))

@@ -16,4 +16,9 @@ issue-spec =
     (λ c. rw (← c .before .before .before .place-index .ensures, lt-leb _ _ (c .before .before .if1 .left), le-leb _ _ (c .if2 .taken)))
     (λ c κs. search needs) (λ c. search needs) (λ c. search needs) (λ c. search needs) (λ c. search needs) (λ c. search needs)
     (λ c. search needs) (λ c. search needs)
-    (λ c. rw (← c .before .before .before .before .place-index .ensures, lt-leb _ _ (c .before .before .before .if1 .left), lt-leb _ _ (c .before .if2 .left), ← c .numbers-of-content .ensures)))
+    (λ c. rw (
+      c .numbers-of-content .ensures,
+      ← c .before .before .before .before .place-index .ensures,
+      lt-leb _ _ (c .before .before .before .if1 .left),
+      lt-leb _ _ (c .before .if2 .left),
+    )))

@@ -11,5 +11,5 @@ second-at-spec =
     (λ c. search needs)
     (λ c κs. search needs)
     (λ c. search needs)
-    (λ c. rw (← c .before .before .before .before .look-up .ensures, c .before .before .found .given .1, ← c .second-of .ensures))
+    (λ c. rw (c .second-of .ensures, ← c .before .before .before .before .look-up .ensures, c .before .before .found .given .1))
     (λ c. rw (← c .before .before .look-up .ensures, c .enum-told .given .1)))

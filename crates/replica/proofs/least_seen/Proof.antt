@@ -29,8 +29,11 @@ least-seen-spec =
     (λ c κs. search needs)
     (λ c. search needs)
     (λ c. search needs)
-    (λ c. rw (c .lesser .ensures) (next-active (c .before .before .before .before .before .loop .inv) (c .before .before .before .before .loop-test .taken) (sym (c .before .before .marks-active .ensures) ∙ c .before .if1 .taken)))
+    (λ c. let tested = c .before .before .before .before in
+    rw (c .lesser .ensures)
+    (next-active (tested .before .loop .inv) (tested .loop-test .taken) (sym (c .before .before .marks-active .ensures) ∙ c .before .if1 .taken)))
     (λ c. search needs)
     (λ c. search needs)
-    (λ c. next-passive (c .before .before .before .before .loop .inv) (c .before .before .before .loop-test .taken) (sym (c .before .marks-active .ensures) ∙ c .if1 .left))
+    (λ c. next-passive (c .before .before .before .before .loop .inv) (c .before .before .before .loop-test .taken)
+    (sym (c .before .marks-active .ensures) ∙ c .if1 .left))
     (λ c. all-seen (c .before .loop .inv) (c .loop-test .left)))

@@ -14,8 +14,18 @@ lesser-spec =
     (λ c. rw (c .before .before .if1 .taken, eq-eqb _ _ (c .before .if2 .taken)) (omega (arith, c .if3 .taken)))
     (λ c. rw (c .before .before .if1 .taken, eq-eqb _ _ (c .before .if2 .taken)) (omega (arith, c .if3 .left)))
     (λ c κs. search needs) (λ c κs. search needs)
-    (λ c. rw (c .before .before .before .before .if1 .taken, ne-eqb _ _ (c .before .before .before .if2 .left), ← c .before .before .accepted-of .ensures, ← c .before .index .ensures) (omega (arith, c .if4 .taken)))
-    (λ c. rw (c .before .before .before .before .if1 .taken, ne-eqb _ _ (c .before .before .before .if2 .left), ← c .before .before .accepted-of .ensures, ← c .before .index .ensures) (omega (arith, c .if4 .left)))
+    (λ c. rw (
+      c .before .before .before .before .if1 .taken,
+      ne-eqb _ _ (c .before .before .before .if2 .left),
+      ← c .before .before .accepted-of .ensures,
+      ← c .before .index .ensures,
+    ) (omega (arith, c .if4 .taken)))
+    (λ c. rw (
+      c .before .before .before .before .if1 .taken,
+      ne-eqb _ _ (c .before .before .before .if2 .left),
+      ← c .before .before .accepted-of .ensures,
+      ← c .before .index .ensures,
+    ) (omega (arith, c .if4 .left)))
     (λ c κs. search needs) (λ c κs. search needs)
     (λ c. rw (c .before .before .before .if1 .left, ← c .before .before .accepted-of2 .ensures, ← c .before .index2 .ensures) (omega (arith, c .if5 .taken)))
     (λ c. rw (c .before .before .before .if1 .left, ← c .before .before .accepted-of2 .ensures, ← c .before .index2 .ensures) (omega (arith, c .if5 .left))))

@@ -10,6 +10,12 @@ settled-count-spec =
     tie.close
     (tie.spec
     (λ c κs. search needs) (λ c κs. search needs)
-    (λ c. rw (← c .before .before .is-active-at .ensures, c .before .if1 .taken, ← c .least-seen .ensures))
+    (λ c. rw (c .least-seen .ensures, ← c .before .before .is-active-at .ensures, c .before .if1 .taken))
     (λ c κs. search needs) (λ c κs. search needs) (λ c κs. search needs)
-    (λ c. rw (← c .before .before .before .before .is-active-at .ensures, c .before .before .before .if1 .left, ← c .before .before .accepted-of .ensures, ← c .before .index .ensures, ← c .least-seen2 .ensures)))
+    (λ c. rw (
+      c .least-seen2 .ensures,
+      ← c .before .before .before .before .is-active-at .ensures,
+      c .before .before .before .if1 .left,
+      ← c .before .before .accepted-of .ensures,
+      ← c .before .index .ensures,
+    )))

@@ -12,4 +12,4 @@ switched-spec =
     (tie.spec
     (λ c. rw (le-leb _ _ (c .if1 .taken)))
     (λ c κs. search needs)
-    (λ c. rw (lt-leb _ _ (c .before .if1 .left), ← c .accepted-of .ensures)))
+    (λ c. rw (c .accepted-of .ensures, lt-leb _ _ (c .before .if1 .left))))

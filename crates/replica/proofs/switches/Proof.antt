@@ -1,4 +1,4 @@
--- `switches`: n counts the replicas below y. Assumes nothing.
+-- `switches`: n counts those replicas below y of which a SWITCH was accepted. Assumes nothing.
 use mathlib.Core.Path.{refl}
 use Prim.Native.Nat.{_-_}
 use borrow.Author.Needs.{needs}

@@ -30,10 +30,12 @@ are-committed-spec =
     (λ c κs. search needs)
     (λ c. search needs)
     (λ c. search needs)
-    (λ c. let h = c .before .before .before .before .before .loop in
-    pass (h .inv) (c .before .before .before .before .loop-test .taken)
+    (λ c. let tested = c .before .before .before .before in
+    let h = tested .before .loop in
+    pass (h .inv) (tested .loop-test .taken)
     (rw (← add-one (h .i), ← c .before .before .narrow .ensures) (sym (c .before .is-committed .ensures) ∙ c .if1 .taken)))
-    (λ c. let h = c .before .before .before .before .before .loop in
-    fail (h .inv) (c .before .before .before .before .loop-test .taken)
+    (λ c. let tested = c .before .before .before .before in
+    let h = tested .before .loop in
+    fail (h .inv) (tested .loop-test .taken)
     (rw (← add-one (h .i), ← c .before .before .narrow .ensures) (sym (c .before .is-committed .ensures) ∙ c .if1 .left)))
     (λ c. all-pass (c .before .loop .inv) (c .loop-test .left)))

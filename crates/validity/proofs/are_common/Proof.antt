@@ -1,4 +1,4 @@
--- `are_common`: the active replicas from x on decide. Assumes nothing.
+-- `are_common`: every active replica before x has the request in common, so that those from x on decide. Assumes nothing.
 use mathlib.Core.Path.{refl, sym, _∙_}
 use Prim.Native.Nat.{_-_}
 use lib.ListN.{length}
@@ -26,6 +26,8 @@ are-common-spec =
     (λ c κs. search needs)
     (λ c. search needs)
     (λ c. search needs)
-    (λ c. next-asked (c .before .before .before .before .loop .inv) (c .before .before .before .loop-test .taken) (sym (c .before .is-common .ensures) ∙ c .if1 .taken))
-    (λ c. not-common (c .before .before .before .before .loop .inv) (c .before .before .before .loop-test .taken) (sym (c .before .is-common .ensures) ∙ c .if1 .left))
+    (λ c. next-asked (c .before .before .before .before .loop .inv) (c .before .before .before .loop-test .taken)
+    (sym (c .before .is-common .ensures) ∙ c .if1 .taken))
+    (λ c. not-common (c .before .before .before .before .loop .inv) (c .before .before .before .loop-test .taken)
+    (sym (c .before .is-common .ensures) ∙ c .if1 .left))
     (λ c. all-asked (c .before .loop .inv) (c .loop-test .left)))

@@ -20,7 +20,9 @@ abbrev μ-loop : tie.MeasureT-loop
 μ-loop ledger issued table leader switcher list j mark₀ i₀ mark i = j - i
 
 -- the mark after one more request
-marked : (c : tie.After-next-mark Inv-loop μ-loop) → c .next-mark .result ≡ markOf (take (suc (c .before .before .before .before .loop .i)) (c .before .before .before .before .before .before .args .list .now))
+marked : (c : tie.After-next-mark Inv-loop μ-loop)
+    → (let in-loop = c .before .before .before .before in
+    c .next-mark .result ≡ markOf (take (suc (in-loop .loop .i)) (in-loop .before .before .args .list .now)))
 marked c =
     let h = c .before .before .before .before .loop in
     c .next-mark .ensures ∙ rw (h .inv .1) (sym (mark-next _ (h .i) (search needs)))
@@ -41,12 +43,16 @@ are-settled-spec =
     (λ c κs. search needs)
     (λ c. search needs)
     (λ c. search needs)
-    (λ c. let h = c .before .before .before .before .before .before .loop in (
-      pass (h .inv .0) (c .before .before .before .before .before .loop-test .taken)
-          (rw (← marked (c .before .before), ← add-one (h .i), ← c .before .before .before .narrow .ensures) (sym (c .before .is-settled .ensures) ∙ c .if1 .taken)),
+    (λ c. let after-narrow = c .before .before .before in
+    let in-loop = after-narrow .before .before .before in
+    let h = in-loop .loop in (
+      pass (h .inv .0) (after-narrow .before .before .loop-test .taken)
+          (rw (← marked (c .before .before), ← add-one (h .i), ← after-narrow .narrow .ensures) (sym (c .before .is-settled .ensures) ∙ c .if1 .taken)),
       rw (add-one (h .i)) (marked (c .before .before)),
     ))
-    (λ c. let h = c .before .before .before .before .before .before .loop in
-    fail (h .inv .0) (c .before .before .before .before .before .loop-test .taken)
-    (rw (← marked (c .before .before), ← add-one (h .i), ← c .before .before .before .narrow .ensures) (sym (c .before .is-settled .ensures) ∙ c .if1 .left)))
+    (λ c. let after-narrow = c .before .before .before in
+    let in-loop = after-narrow .before .before .before in
+    let h = in-loop .loop in
+    fail (h .inv .0) (after-narrow .before .before .loop-test .taken)
+    (rw (← marked (c .before .before), ← add-one (h .i), ← after-narrow .narrow .ensures) (sym (c .before .is-settled .ensures) ∙ c .if1 .left)))
     (λ c. all-pass (c .before .loop .inv .0) (c .loop-test .left)))

@@ -11,5 +11,5 @@ is-committed-spec =
     (tie.spec
     (λ c κs. search needs)
     (λ c κs. search needs)
-    (λ c. rw (← c .before .before .is-content .ensures, c .before .if1 .taken, ← c .is-content2 .ensures))
+    (λ c. rw (c .is-content2 .ensures, ← c .before .before .is-content .ensures, c .before .if1 .taken))
     (λ c. rw (← c .before .is-content .ensures, c .if1 .left)))

@@ -14,5 +14,11 @@ is-common-spec =
     (λ c. rw (← c .before .before .marks-active .ensures, c .before .if1 .taken, eq-eqb _ _ (c .if2 .taken)))
     (λ c. rw (← c .before .before .before .marks-active .ensures, c .before .before .if1 .taken, ne-eqb _ _ (c .before .if2 .left), eq-eqb _ _ (c .if3 .taken)))
     (λ c κs. search needs)
-    (λ c. rw (← c .before .before .before .before .marks-active .ensures, c .before .before .before .if1 .taken, ne-eqb _ _ (c .before .before .if2 .left), ne-eqb _ _ (c .before .if3 .left), ← c .is-content .ensures))
+    (λ c. rw (
+      c .is-content .ensures,
+      ← c .before .before .before .before .marks-active .ensures,
+      c .before .before .before .if1 .taken,
+      ne-eqb _ _ (c .before .before .if2 .left),
+      ne-eqb _ _ (c .before .if3 .left),
+    ))
     (λ c. rw (← c .before .marks-active .ensures, c .if1 .left)))

@@ -26,6 +26,28 @@ is-filed-spec =
     (λ c. search needs)
     (λ c. search needs)
     (λ c κs. search needs)
-    (λ c. rw (lt-leb _ _ (c .before .before .before .before .before .before .before .before .before .before .if1 .left), lt-leb _ _ (c .before .before .before .before .before .before .before .before .before .if2 .left), ← c .before .before .before .before .before .is-next .ensures, c .before .before .before .before .if3 .taken, ← c .before .before .before .is-next2 .ensures, c .before .before .if4 .taken, ← c .is-borne-out .ensures))
-    (λ c. rw (lt-leb _ _ (c .before .before .before .before .before .before .before .before .if1 .left), lt-leb _ _ (c .before .before .before .before .before .before .before .if2 .left), ← c .before .before .before .is-next .ensures, c .before .before .if3 .taken, ← c .before .is-next2 .ensures, c .if4 .left))
-    (λ c. rw (lt-leb _ _ (c .before .before .before .before .before .before .if1 .left), lt-leb _ _ (c .before .before .before .before .before .if2 .left), ← c .before .is-next .ensures, c .if3 .left)))
+    (λ c. let after-is-next2 = c .before .before .before in
+    let after-is-next = after-is-next2 .before .before in
+    let tested2 = after-is-next .before .before .before .before in
+    rw (
+      c .is-borne-out .ensures,
+      lt-leb _ _ (tested2 .before .if1 .left),
+      lt-leb _ _ (tested2 .if2 .left),
+      ← after-is-next .is-next .ensures,
+      after-is-next2 .before .if3 .taken,
+      ← after-is-next2 .is-next2 .ensures,
+      c .before .before .if4 .taken,
+    ))
+    (λ c. let after-is-next = c .before .before .before in
+    let tested2 = after-is-next .before .before .before .before in
+    rw (
+      lt-leb _ _ (tested2 .before .if1 .left),
+      lt-leb _ _ (tested2 .if2 .left),
+      ← after-is-next .is-next .ensures,
+      c .before .before .if3 .taken,
+      ← c .before .is-next2 .ensures,
+      c .if4 .left,
+    ))
+    (λ c. let after-is-next = c .before in
+    let tested2 = after-is-next .before .before .before .before in
+    rw (lt-leb _ _ (tested2 .before .if1 .left), lt-leb _ _ (tested2 .if2 .left), ← after-is-next .is-next .ensures, c .if3 .left)))

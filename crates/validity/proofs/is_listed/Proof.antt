@@ -25,17 +25,23 @@ is-listed-spec =
     (λ c. search needs)
     (λ c. search needs)
     (λ c κs. search needs)
-    (λ c. let a = c .before .before .before .before .before .before .args in
+    (λ c. let tested = c .before .before .before in
+    let start = tested .before .before .before in
+    let a = start .args in
     rw (listed-entries (take (a .submitted) (a .requests .now)) (a .list .now) (a .n) (search needs))
-    (fail (c .before .before .before .before .loop .inv) (c .before .before .before .loop-test .taken) (rw (← c .before .holds .ensures, c .if1 .taken))))
+    (fail (tested .before .loop .inv) (tested .loop-test .taken) (rw (← c .before .holds .ensures, c .if1 .taken))))
     (λ c κs. search needs)
     (λ c. search needs)
     (λ c. search needs)
-    (λ c. pass (c .before .before .before .before .before .before .loop .inv) (c .before .before .before .before .before .loop-test .taken)
-    (rw (← c .before .before .before .holds .ensures, c .before .before .if1 .left) (sym (c .before .holds2 .ensures) ∙ c .if2 .taken)))
-    (λ c. let a = c .before .before .before .before .before .before .before .before .args in
+    (λ c. let after-holds = c .before .before .before in
+    let in-loop = after-holds .before .before .before in
+    pass (in-loop .loop .inv) (after-holds .before .before .loop-test .taken)
+    (rw (← after-holds .holds .ensures, c .before .before .if1 .left) (sym (c .before .holds2 .ensures) ∙ c .if2 .taken)))
+    (λ c. let after-holds = c .before .before .before in
+    let in-loop = after-holds .before .before .before in
+    let a = in-loop .before .before .args in
     rw (listed-entries (take (a .submitted) (a .requests .now)) (a .list .now) (a .n) (search needs))
-    (fail (c .before .before .before .before .before .before .loop .inv) (c .before .before .before .before .before .loop-test .taken)
-    (rw (← c .before .before .before .holds .ensures, c .before .before .if1 .left) (sym (c .before .holds2 .ensures) ∙ c .if2 .left))))
+    (fail (in-loop .loop .inv) (after-holds .before .before .loop-test .taken)
+    (rw (← after-holds .holds .ensures, c .before .before .if1 .left) (sym (c .before .holds2 .ensures) ∙ c .if2 .left))))
     (λ c. let a = c .before .before .before .args in
     rw (listed-entries (take (a .submitted) (a .requests .now)) (a .list .now) (a .n) (search needs)) (all-pass (c .before .loop .inv) (c .loop-test .left))))

@@ -11,5 +11,5 @@ is-settled-spec =
     (tie.spec
     (λ c κs. search needs)
     (λ c κs. search needs)
-    (λ c. rw (← c .before .before .are-common .ensures, c .before .if1 .taken, ← c .is-content .ensures))
+    (λ c. rw (c .is-content .ensures, ← c .before .before .are-common .ensures, c .before .if1 .taken))
     (λ c. rw (← c .before .are-common .ensures, c .if1 .left)))

@@ -13,6 +13,14 @@ is-valid-spec =
     (λ c κs. search needs)
     (λ c κs. search needs)
     (λ c κs. search needs)
-    (λ c. rw (← c .before .before .before .before .before .is-content .ensures, c .before .before .before .before .if1 .taken, ← c .before .before .before .is-content2 .ensures, c .before .before .if2 .taken, ← c .before .index .ensures, ← c .is-filed .ensures))
+    (λ c. let after-is-content2 = c .before .before .before in
+    rw (
+      c .is-filed .ensures,
+      ← after-is-content2 .before .before .is-content .ensures,
+      after-is-content2 .before .if1 .taken,
+      ← after-is-content2 .is-content2 .ensures,
+      c .before .before .if2 .taken,
+      ← c .before .index .ensures,
+    ))
     (λ c. rw (← c .before .before .before .is-content .ensures, c .before .before .if1 .taken, ← c .before .is-content2 .ensures, c .if2 .left))
     (λ c. rw (← c .before .is-content .ensures, c .if1 .left)))

@@ -1,4 +1,4 @@
--- `switch_leader`: no replica below x is the one that is sought. Assumes nothing.
+-- `switch_leader`: no replica below x is the one that is sought, an active one that is not the leader; those from x on decide. Assumes nothing.
 use mathlib.Core.Path.{refl, sym, _∙_}
 use Prim.Native.Nat.{_-_}
 use lib.ListN.{length}
@@ -25,11 +25,16 @@ switch-leader-spec =
     (λ c. search needs)
     (λ c. search needs)
     (λ c κs. search needs)
-    (λ c. found (c .before .before .before .before .before .loop .inv) (c .before .before .before .before .loop-test .taken) (sym (c .before .before .marks-active .ensures) ∙ c .before .if1 .taken) (c .if2 .taken))
+    (λ c. let tested = c .before .before .before .before in
+    found (tested .before .loop .inv) (tested .loop-test .taken) (sym (c .before .before .marks-active .ensures) ∙ c .before .if1 .taken)
+    (c .if2 .taken))
     (λ c. search needs)
     (λ c. search needs)
-    (λ c. is-leader (c .before .before .before .before .before .loop .inv) (c .before .before .before .before .loop-test .taken) (sym (c .before .before .marks-active .ensures) ∙ c .before .if1 .taken) (c .if2 .left))
+    (λ c. let tested = c .before .before .before .before in
+    is-leader (tested .before .loop .inv) (tested .loop-test .taken) (sym (c .before .before .marks-active .ensures) ∙ c .before .if1 .taken)
+    (c .if2 .left))
     (λ c. search needs)
     (λ c. search needs)
-    (λ c. is-passive (c .before .before .before .before .loop .inv) (c .before .before .before .loop-test .taken) (sym (c .before .marks-active .ensures) ∙ c .if1 .left))
+    (λ c. is-passive (c .before .before .before .before .loop .inv) (c .before .before .before .loop-test .taken)
+    (sym (c .before .marks-active .ensures) ∙ c .if1 .left))
     (λ c. none-found (c .before .loop .inv) (c .loop-test .left)))

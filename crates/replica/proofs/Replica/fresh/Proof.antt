@@ -10,4 +10,4 @@ fresh-spec =
     tie.close
     (tie.spec
     (λ c κs. search needs)
-    (λ c. rw (← c .first-condition .ensures)))
+    (λ c. rw (c .first-condition .ensures)))
