@@ -30,15 +30,18 @@ val = LL.val T.the-type T′.the-laws
 
 module _ {M : Type 1} (𝓤 : URA M) (H : Heap 𝓤) (A : Atoms 𝓤) (W : Given 𝓤 H A) where
   -- the cell of a local, with what the record owns, is the record in memory
-  pub lies : (h : Replica) (v : Val) (b o : ℕ) → ent 𝓤 (sep 𝓤 (H .at fullShare T′.mir b o v) (sem 𝓤 H A (R .own h (v ∷ [])))) (sem 𝓤 H A (partAt R fullShare h b o))
+  pub lies : (h : Replica) (v : Val) (b o : ℕ)
+      → ent 𝓤 (sep 𝓤 (H .at fullShare T′.mir b o v) (sem 𝓤 H A (R .own h (v ∷ [])))) (sem 𝓤 H A (partAt R fullShare h b o))
   unfolding partOf
   lies h v b o =
-      qed W (‵ (fat fullShare T′.mir b o v) ∷ ‵ (R .own h (v ∷ [])) ∷ []) ∵ use1 W (‵ (cellAt fullShare (R .mir) (v ∷ []) b o)) (W .laws .at-raw fullShare T′.mir b o v) $
+      qed W (‵ (fat fullShare T′.mir b o v) ∷ ‵ (R .own h (v ∷ [])) ∷ []) ∵ use1 W (‵ (cellAt fullShare (R .mir) (v ∷ []) b o))
+      (W .laws .at-raw fullShare T′.mir b o v) $
       fjoin ! $ fpack ! (List Val) (λ us. fsep (cellAt fullShare (R .mir) us b o) (R .own h us)) (v ∷ []) $ done !
 
   -- the record in memory is the cell of a local at the record's machine value, with what the record owns
   pub lain : (h : Replica) (b o : ℕ) → ent 𝓤 (sem 𝓤 H A (partAt R fullShare h b o)) (sep 𝓤 (H .at fullShare T′.mir b o (val h)) (sem 𝓤 H A (R .own h (vals h))))
   unfolding partOf
   lain h b o =
-      qed W (‵ (partAt R fullShare h b o) ∷ []) ∵ fpick ! (λ vs. fsplit ! $ spelt ! R (Is R) (shows 𝓤 H A R) vals (LL.tells T.the-type T′.the-laws) fullShare h vs b o $
+      qed W (‵ (partAt R fullShare h b o) ∷ []) ∵ fpick ! (λ vs. fsplit ! $
+      spelt ! R (Is R) (shows 𝓤 H A R) vals (LL.tells T.the-type T′.the-laws) fullShare h vs b o $
       use1 W (‵ (fat fullShare T′.mir b o (val h))) (W .laws .raw-at fullShare T′.mir b o (val h)) $ frame ! $ done !)

@@ -85,7 +85,8 @@ filed-few Kind.Panic k e = omega arith
 filed-few Kind.Idle k e = omega arith
 filed-few Kind.Build k e = omega arith
 filed-few Kind.File k e =
-    by-cases (decLt requestsMax (k + e)) (λ big. rw (lt-leb (k + e) requestsMax big) (omega arith)) (λ small. rw (le-leb (k + e) requestsMax (omega arith)) (omega arith))
+    by-cases (decLt requestsMax (k + e)) (λ big. rw (lt-leb (k + e) requestsMax big) (omega arith))
+    (λ small. rw (le-leb (k + e) requestsMax (omega arith)) (omega arith))
 
 pub requests-file : (bytes : List ℕ) (at count : ℕ) (list list′ : List ℕ) (r : ℕ) → Stretched (stretchAt count bytes at) (replicate requestsMax 0) list′ r
     → RequestsRead bytes Kind.File at count list list′ r

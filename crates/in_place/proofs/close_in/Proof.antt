@@ -18,5 +18,6 @@ unfolding code.routine tablesOf
 close-in-spec 𝓤 H 𝓜 𝓖 𝓡 =
     entered 𝓤 H (tripleOf 𝓤 H (𝓖 .A) close-in.signature (close-in.spec 𝓤 H (𝓖 .A) (𝓜 .mem) (𝓡 .run)))
     (tables 𝓤 H 𝓜 𝓡 code.env .C) (tables 𝓤 H 𝓜 𝓡 code.env .Λ) #close-in code.function (code.unfolded 𝓤 H 𝓜 𝓡)
-    (thin-meets 𝓤 H (𝓖 .A) (givenOf 𝓤 H 𝓜 𝓖) closeOn #close code.function refl (close-in.clauses 𝓤 H (𝓖 .A) (𝓜 .mem) (𝓡 .run)) refl (tablesOf 𝓤 H 𝓜 (tables 𝓤 H 𝓜 𝓡 code.env))
+    (thin-meets 𝓤 H (𝓖 .A) (givenOf 𝓤 H 𝓜 𝓖) closeOn #close code.function refl (close-in.clauses 𝓤 H (𝓖 .A) (𝓜 .mem) (𝓡 .run)) refl
+    (tablesOf 𝓤 H 𝓜 (tables 𝓤 H 𝓜 𝓡 code.env))
     (cited 𝓤 H (Step 𝓤 H (𝓖 .A) (givenOf 𝓤 H 𝓜 𝓖) closeOn) 𝓜 𝓡 code.env #close close-def.routine code.calls-replica·Replica·close (close-thm.met 𝓤 H 𝓜 𝓖 𝓡)))

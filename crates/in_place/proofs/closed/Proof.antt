@@ -18,5 +18,7 @@ unfolding code.routine tablesOf
 closed-spec 𝓤 H 𝓜 𝓖 𝓡 =
     entered 𝓤 H (tripleOf 𝓤 H (𝓖 .A) the-closed.signature (the-closed.spec 𝓤 H (𝓖 .A) (𝓜 .mem) (𝓡 .run)))
     (tables 𝓤 H 𝓜 𝓡 code.env .C) (tables 𝓤 H 𝓜 𝓡 code.env .Λ) #closed code.function (code.unfolded 𝓤 H 𝓜 𝓡)
-    (by-meets 𝓤 H (𝓖 .A) (givenOf 𝓤 H 𝓜 𝓖) closeOn #close-in code.function refl (the-closed.clauses 𝓤 H (𝓖 .A) (𝓜 .mem) (𝓡 .run)) refl (tablesOf 𝓤 H 𝓜 (tables 𝓤 H 𝓜 𝓡 code.env))
-    (cited 𝓤 H (StepIn 𝓤 H (𝓖 .A) (givenOf 𝓤 H 𝓜 𝓖) closeOn) 𝓜 𝓡 code.env #close-in close-in-def.routine code.calls-in-place·close-in (close-in-thm.met 𝓤 H 𝓜 𝓖 𝓡)))
+    (by-meets 𝓤 H (𝓖 .A) (givenOf 𝓤 H 𝓜 𝓖) closeOn #close-in code.function refl (the-closed.clauses 𝓤 H (𝓖 .A) (𝓜 .mem) (𝓡 .run)) refl
+    (tablesOf 𝓤 H 𝓜 (tables 𝓤 H 𝓜 𝓡 code.env))
+    (cited 𝓤 H (StepIn 𝓤 H (𝓖 .A) (givenOf 𝓤 H 𝓜 𝓖) closeOn) 𝓜 𝓡 code.env #close-in close-in-def.routine code.calls-in-place·close-in
+    (close-in-thm.met 𝓤 H 𝓜 𝓖 𝓡)))

@@ -18,5 +18,6 @@ unfolding code.routine tablesOf
 held-spec 𝓤 H 𝓜 𝓖 𝓡 =
     entered 𝓤 H (tripleOf 𝓤 H (𝓖 .A) the-held.signature (the-held.spec 𝓤 H (𝓖 .A) (𝓜 .mem) (𝓡 .run)))
     (tables 𝓤 H 𝓜 𝓡 code.env .C) (tables 𝓤 H 𝓜 𝓡 code.env .Λ) #held code.function (code.unfolded 𝓤 H 𝓜 𝓡)
-    (by-meets 𝓤 H (𝓖 .A) (givenOf 𝓤 H 𝓜 𝓖) holdOn #hold-in code.function refl (the-held.clauses 𝓤 H (𝓖 .A) (𝓜 .mem) (𝓡 .run)) refl (tablesOf 𝓤 H 𝓜 (tables 𝓤 H 𝓜 𝓡 code.env))
+    (by-meets 𝓤 H (𝓖 .A) (givenOf 𝓤 H 𝓜 𝓖) holdOn #hold-in code.function refl (the-held.clauses 𝓤 H (𝓖 .A) (𝓜 .mem) (𝓡 .run)) refl
+    (tablesOf 𝓤 H 𝓜 (tables 𝓤 H 𝓜 𝓡 code.env))
     (cited 𝓤 H (StepIn 𝓤 H (𝓖 .A) (givenOf 𝓤 H 𝓜 𝓖) holdOn) 𝓜 𝓡 code.env #hold-in hold-in-def.routine code.calls-in-place·hold-in (hold-in-thm.met 𝓤 H 𝓜 𝓖 𝓡)))

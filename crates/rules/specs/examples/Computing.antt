@@ -66,7 +66,8 @@ unfoldable pub computing : Kit → ℕ → Room
 unfolding
     nextMark isActive isMarkedFaulty actives switchLeader freshReplica freshRoom withClock withLate withReplica issue withHistory remember withCondition
     withMark note notePair accept hold sameContent settledCount settledNoted heldList settled answeredAt answered tick refuseIf decideSubmit
-    afterSubmit decideIssue decideFile afterFile settle decidePrepare afterPrepare decideCommit afterCommit decideAg decidePair decideUpdate afterUpdate decideUp decideSw switches
+    afterSubmit decideIssue decideFile afterFile settle
+    decidePrepare afterPrepare decideCommit afterCommit decideAg decidePair decideUpdate afterUpdate decideUp decideSw switches
     afterSwitch isTooLate hasWrongRoles decideContent decideReceive decideDeliver decidePanic afterPanic builtList built decideBuild afterBuild isCommitted
     isSettledBy isValid decideHold decideHand afterHand decide concerned acted carryOut onEvent step play after answer
 computing kit n = after kit n
