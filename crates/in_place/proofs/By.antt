@@ -47,8 +47,7 @@ use Rattle.in_place.proofs.Thin.{lent-ended, lent}
 abbrev pub by-ended : Ended
 by-ended = record {
   signature = record { lifetimes = 0; outlives = []; params = plain (λ _. R) ∷ plain (λ _. u32) ∷ []; result = plain (λ _. R) };
-  kept =
-      (yes, (yes, tt));
+  kept = (yes, (yes, tt));
 }
 
 abbrev pub by-thin : Name → Fn

@@ -49,8 +49,7 @@ Q = u32
 abbrev pub step-ended : Ended
 step-ended = record {
   signature = record { lifetimes = 0; outlives = []; params = plain (λ _. R) ∷ plain (λ _. Q) ∷ []; result = plain (λ _. R) };
-  kept =
-      (yes, (yes, tt));
+  kept = (yes, (yes, tt));
 }
 
 abbrev pub lent-ended : Ended
@@ -58,8 +57,7 @@ lent-ended = record {
   signature = record {
     lifetimes = 1;
     outlives = [];
-    params = RefMutOf (0 ∷ []) tt (plain (λ _. R)) (λ _. tt) ∷ plain
-        (λ _. Q) ∷ [];
+    params = RefMutOf (0 ∷ []) tt (plain (λ _. R)) (λ _. tt) ∷ plain (λ _. Q) ∷ [];
     result = plain (λ _. unit);
   };
   kept = (yes, (yes, tt));
@@ -70,8 +68,8 @@ thin g = record {
   lifetimes = 1;
   outlives = [];
   params = 2;
-  locals = local tyUnit valueLocal ∷ local (tyRef (named 0) mut (pointee (R .written))) valueLocal ∷ local
-      (tyInt w32) valueLocal ∷ local T′.mir valueLocal ∷ local T′.mir valueLocal ∷ [];
+  locals = local tyUnit valueLocal ∷ local (tyRef (named 0) mut (pointee (R .written))) valueLocal
+      ∷ local (tyInt w32) valueLocal ∷ local T′.mir valueLocal ∷ local T′.mir valueLocal ∷ [];
   body =
       seq (assign (place 4 []) (rvOpd (copy (place 1 (deref T′.mir ∷ [])))))
       (seq (call g (copy (place 4 []) ∷ copy (place 2 []) ∷ []) (place 3 []))
