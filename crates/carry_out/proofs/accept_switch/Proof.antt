@@ -16,9 +16,9 @@ accept-switch-spec =
     (λ c. let after-switches = c .before .before .before in
     let after-accept = after-switches .before .before .before in
     rw (
+      c .closed .ensures,
       ← after-accept .accept .ensures,
       ← after-switches .switches .ensures,
       le-ltb _ _ (c .before .before .if1 .left),
       ← c .before .held-mark .ensures,
-      ← c .closed .ensures,
     )))

@@ -15,4 +15,4 @@ build-spec =
     (λ c. let after-issue2 = c .before .before .before in
     let after-issue = after-issue2 .before .before .before in
     let tested = after-issue .before .before .before in
-    rw (lt-leb _ _ (tested .if1 .left), ← after-issue .issue .ensures, ← after-issue2 .issue2 .ensures, ← c .hand .ensures)))
+    rw (c .hand .ensures, lt-leb _ _ (tested .if1 .left), ← after-issue .issue .ensures, ← after-issue2 .issue2 .ensures)))

@@ -14,5 +14,5 @@ held-mark-spec =
     (λ c. rw (← c .before .before .index .ensures, c .before .if1 .taken, le-leb _ _ (c .if2 .taken)))
     (λ c. search needs) (λ c. search needs) (λ c. search needs) (λ c. search needs) (λ c. search needs) (λ c κs. search needs)
     (λ c. let tested2 = c .before .before .before in
-    rw (← tested2 .before .before .index .ensures, tested2 .before .if1 .taken, lt-leb _ _ (tested2 .if2 .left), ← c .mark-of .ensures))
+    rw (c .mark-of .ensures, ← tested2 .before .before .index .ensures, tested2 .before .if1 .taken, lt-leb _ _ (tested2 .if2 .left)))
     (λ c. rw (← c .before .index .ensures, c .if1 .left)))

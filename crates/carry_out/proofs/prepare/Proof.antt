@@ -17,6 +17,7 @@ prepare-spec =
     let after-accept = after-issue .before .before .before in
     let after-total = after-accept .before .before .before in
     rw (
+      c .settle .ensures,
       ← after-total .total .ensures,
       ← after-accept .before .before .settled-count .ensures,
       ← after-accept .before .noted .ensures,
@@ -24,5 +25,4 @@ prepare-spec =
       ← after-issue .issue .ensures,
       ← after-total2 .total2 .ensures,
       ← after-settled-count2 .settled-count2 .ensures,
-      ← c .settle .ensures,
     )))

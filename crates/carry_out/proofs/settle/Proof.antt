@@ -14,10 +14,10 @@ settle-spec =
     (λ c. let after-next-mark = c .before .before .before .before in
     let tested = after-next-mark .before .before .before .before in
     rw (
+      c .with-mark .ensures,
       lt-ltb _ _ (tested .if1 .taken),
       ← after-next-mark .before .request-at .ensures,
       ← after-next-mark .next-mark .ensures,
       ← c .before .issue .ensures,
-      ← c .with-mark .ensures,
     ))
     (λ c. rw (le-ltb _ _ (c .if1 .left))))

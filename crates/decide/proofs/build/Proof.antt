@@ -26,11 +26,11 @@ build-spec =
     (λ c. let tested2 = c .before .before .before in
     let after-is-faulty = tested2 .before .before .before in
     rw (
+      c .settled-count .ensures,
       ← after-is-faulty .is-faulty .ensures,
       tested2 .before .before .if1 .left,
       ← tested2 .before .is-running .ensures,
       tested2 .if2 .left,
       c .before .before .if3 .left,
       ← c .before .total .ensures,
-      ← c .settled-count .ensures,
     )))

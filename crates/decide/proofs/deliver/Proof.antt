@@ -18,11 +18,11 @@ deliver-spec =
     (λ c. search needs)
     (λ c. let after-look-up = c .before .before .before .before in
     rw (
+      c .receive .ensures,
       ← after-look-up .before .before .is-faulty .ensures,
       after-look-up .before .if1 .left,
       ← after-look-up .look-up .ensures,
       c .before .before .found .given .1,
-      ← c .receive .ensures,
     ))
     (λ c. rw (
       ← c .before .before .before .before .is-faulty .ensures,

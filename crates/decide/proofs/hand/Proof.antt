@@ -24,6 +24,7 @@ hand-spec =
     let after-first = told .before .before .before in
     let after-look-up = after-first .before .before .before in
     rw (
+      c .hold .ensures,
       ← after-look-up .before .before .is-faulty .ensures,
       after-look-up .before .if1 .left,
       ← after-look-up .look-up .ensures,
@@ -31,7 +32,6 @@ hand-spec =
       after-first .first .given .1,
       told .enum-told .given .1,
       ← c .before .first-of .ensures,
-      ← c .hold .ensures,
     ))
     (λ c. let after-first = c .before .before .before in
     let after-look-up = after-first .before .before .before in

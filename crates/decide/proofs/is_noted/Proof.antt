@@ -8,4 +8,4 @@ is-noted-spec =
     tie.close
     (tie.spec
     (λ c κs. search needs)
-    (λ c. rw (← c .index .ensures)))
+    (λ c. rw (c .index .ensures)))

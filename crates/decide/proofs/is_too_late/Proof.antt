@@ -11,7 +11,7 @@ is-too-late-spec =
     tie.close
     (tie.spec
     (λ c κs. search needs)
-    (λ c. rw (eq-eqb _ _ (c .before .if1 .taken), ← c .is-closed .ensures))
+    (λ c. rw (c .is-closed .ensures, eq-eqb _ _ (c .before .if1 .taken)))
     (λ c κs. search needs)
     (λ c. rw (ne-eqb _ _ (c .before .before .if1 .left), ← c .before .is-running .ensures, c .if2 .taken))
     (λ c. rw (ne-eqb _ _ (c .before .before .if1 .left), ← c .before .is-running .ensures, c .if2 .left)))

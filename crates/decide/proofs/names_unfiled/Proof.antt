@@ -17,5 +17,5 @@ names-unfiled-spec =
     (λ c. rw (c .enum-told .given .1))
     (λ c. rw (c .enum-told2 .given .1))
     (λ c. rw (c .enum-told3 .given .1))
-    (λ c. rw (c .before .before .content .given .1, ← c .index .ensures))
-    (λ c. rw (c .before .before .content2 .given .1, ← c .index2 .ensures)))
+    (λ c. rw (c .index .ensures, c .before .before .content .given .1))
+    (λ c. rw (c .index2 .ensures, c .before .before .content2 .given .1)))

@@ -11,25 +11,25 @@ on-content-spec =
     tie.close
     (tie.spec
     (λ c κs. search needs)
-    (λ c. rw (eq-eqb _ _ (c .before .before .if1 .taken), eq-eqb _ _ (c .before .if2 .taken), ← c .prepare .ensures))
+    (λ c. rw (c .prepare .ensures, eq-eqb _ _ (c .before .before .if1 .taken), eq-eqb _ _ (c .before .if2 .taken)))
     (λ c κs. search needs)
-    (λ c. rw (eq-eqb _ _ (c .before .before .if1 .taken), ne-eqb _ _ (c .before .if2 .left), ← c .commit .ensures))
+    (λ c. rw (c .commit .ensures, eq-eqb _ _ (c .before .before .if1 .taken), ne-eqb _ _ (c .before .if2 .left)))
     (λ c κs. search needs)
     (λ c κs. search needs)
     (λ c. rw (
+      c .known-pair .ensures,
       ne-eqb _ _ (c .before .before .before .before .if1 .left),
       eq-eqb _ _ (c .before .before .before .if3 .taken),
       ← c .before .before .is-noted .ensures,
       c .before .if4 .taken,
-      ← c .known-pair .ensures,
     ))
     (λ c κs. search needs)
     (λ c. rw (
+      c .new-pair .ensures,
       ne-eqb _ _ (c .before .before .before .before .if1 .left),
       eq-eqb _ _ (c .before .before .before .if3 .taken),
       ← c .before .before .is-noted .ensures,
       c .before .if4 .left,
-      ← c .new-pair .ensures,
     ))
     (λ c κs. search needs)
-    (λ c. rw (ne-eqb _ _ (c .before .before .if1 .left), ne-eqb _ _ (c .before .if3 .left), ← c .switch .ensures)))
+    (λ c. rw (c .switch .ensures, ne-eqb _ _ (c .before .before .if1 .left), ne-eqb _ _ (c .before .if3 .left))))

@@ -32,6 +32,7 @@ receive-spec =
     let after-has-wrong-roles = after-index .before .before .before in
     let tested = after-has-wrong-roles .before .before .before in
     rw (
+      c .on-content .ensures,
       ← tested .before .is-too-late .ensures,
       tested .if1 .left,
       ← after-has-wrong-roles .before .before .is-too-early .ensures,
@@ -42,7 +43,6 @@ receive-spec =
       ← after-index .index .ensures,
       ← c .before .before .is-next .ensures,
       c .before .if4 .taken,
-      ← c .on-content .ensures,
     ))
     (λ c. let after-accepted-of = c .before .before .before in
     let tested2 = after-accepted-of .before .before .before in
