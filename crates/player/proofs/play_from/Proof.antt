@@ -48,8 +48,8 @@ test-of-answer c = test-of-tick (concerned-of-decide (c .before) .before)
 abbrev test-of-count : tie.After-counted Inv-loop μ-loop → tie.In-loop Inv-loop μ-loop
 test-of-count c = test-of-answer (answer-of-enter (c .before .before .before))
 
-abbrev concerned-of-applied : tie.After-applied Inv-loop μ-loop → tie.After-concerned Inv-loop μ-loop
-concerned-of-applied c =
+abbrev concerned-of-apply : tie.After-apply Inv-loop μ-loop → tie.After-concerned Inv-loop μ-loop
+concerned-of-apply c =
     let lent = c .before .before .before .before in
     let after-enter = lent .before .before .before in
     concerned-of-decide (answer-of-enter after-enter .before)
@@ -85,10 +85,10 @@ element-write-answers : tie.Need-element-write-answers Inv-loop μ-loop
 element-write-answers c = let test = test-of-answer c in omega (arith, test .loop-test .taken, test .before .loop .inv .1)
 
 mul-replicas : tie.Need-mul-replicas Inv-loop μ-loop
-mul-replicas c = omega (arith, below (concerned-of-applied c))
+mul-replicas c = omega (arith, below (concerned-of-apply c))
 
 array-set-from-replicas : tie.Need-array-set-from-replicas Inv-loop μ-loop
-array-set-from-replicas c = below (concerned-of-applied c)
+array-set-from-replicas c = below (concerned-of-apply c)
 
 -- ---- after a turn, and at the end
 
