@@ -152,6 +152,12 @@ def main(argv):
         text = antt_text(read(path), new)
         with open(path, "w", encoding="utf-8") as it:
             it.write(text)
+    # the proof of a function F is F_spec
+    for path in glob.glob("crates/*/proofs/*/Proof.antt"):
+        function = os.path.basename(os.path.dirname(path))
+        text = re.sub(rf"\b{function.replace('_', '-')}-spec\b", f"{function}_spec", read(path))
+        with open(path, "w", encoding="utf-8") as it:
+            it.write(text)
     for path in glob.glob("crates/*/src/**/*.rt", recursive=True):
         text = rt_text(read(path), new)
         with open(path, "w", encoding="utf-8") as it:
