@@ -17,7 +17,7 @@ import sys
 
 OWN = r"Rattle\.(?:terms|number|grammar|kit|rules|ledger|replica|in_place|room|clock|validity|decide|carry_out|player|text|play_lines|room_lines|played|play_text|room_text|ritungkale_\w+|number_vectors|kit_cases|holds_cases|kit_plays|kitplay|kitroom)\."
 # Names where the rule would not give what is meant.
-CHOSEN = {"carryOut": "carried_out", "playLines": "lines_of_play", "playText": "text_of_play", "roomText": "text_of_room", "takeAt": "taken_at"}
+CHOSEN = {"carryOut": "carried_out", "playLines": "lines_of_play", "playText": "text_of_play", "roomText": "text_of_room", "takeAt": "taken_at", "roomLines": "lines_of_room", "playFrom": "played_from_records"}
 # Spelled so by the library or by Rattle.
 KEEP = set()
 # Words that stand for a name of the library or an operator, behind a dash and before one.
@@ -45,9 +45,10 @@ def declared():
         for m in re.finditer(r"^use ([^\s{]+)\.\{([^}]*)\}", text, re.M):
             if not re.match(OWN, m[1] + "."):
                 other |= {n.strip().split(" as ")[0] for n in m[2].split(",")}
-        if path.endswith("/Proof.antt"):
+        # what a function's own proof files declare is named by Rattle
+        if re.search(r"/proofs/.+/(Proof|Answers|Invariants)\.antt$", path):
             continue
-        for m in re.finditer(r"^ *(?:(?:pub|abbrev|unfoldable|mutual|data|record) )*([a-zA-Z][^\s(){}.;,:]*)(?: \{[^}]*\})*(?: \([^)]*\))* :(?= |\n)", text, re.M):
+        for m in re.finditer(r"^ *(?:(?:pub|abbrev|unfoldable|mutual|data|record) )*([a-zA-Z][^\s(){}.;,:]*)(?: \{[^}]*\})*(?: \([^)]*\))*(?: :(?= |\n)|(?=\n +:))", text, re.M):
             own.setdefault(m[1], (path, text[m.end(): m.end() + 300].split("\n\n")[0]))
     return own, other
 
@@ -70,7 +71,8 @@ def plan():
     before, behind = long | BEFORE, long | BEHIND
     new = {}
     for n in sorted(own):
-        if n in other or n in KEEP or n[0].isupper() and "-" not in n:
+        # a type, also joined to a name by a dash; what has been turned
+        if n in other or n in KEEP or n[0].isupper() or "-" in n and "_" in n:
             continue
         if n in CHOSEN:
             new[n] = CHOSEN[n]
@@ -154,7 +156,7 @@ def main(argv):
             it.write(text)
     # the proof of a function F is F_spec
     for path in glob.glob("crates/*/proofs/*/Proof.antt"):
-        function = os.path.basename(os.path.dirname(path))
+        function = os.path.basename(os.path.dirname(path)).lstrip("+")
         text = re.sub(rf"\b{function.replace('_', '-')}-spec\b", f"{function}_spec", read(path))
         with open(path, "w", encoding="utf-8") as it:
             it.write(text)
