@@ -1,5 +1,5 @@
 -- Laws of Lists. In order: tests taken apart (`split`, `no_way`, `and_l`), elements by place and prefixes (`nth-…`, `sub_prefix`), tests below a bound,
--- the least (`leastOver-…`), lists that hold a number, tests of every element, lists in which nothing stands twice (`once-…`). Assumes nothing.
+-- the least (`least_over-…`), lists that hold a number, tests of every element, lists in which nothing stands twice (`once-…`). Assumes nothing.
 use Rattle.std.specs.Prelude.{◌≡◌, ℕ, zero, suc, ◌+◌, ◌<◌, ◌≤◌, Bool, true, false, not, ◌&&◌, ◌||◌, ◌≢◌, ◌⊎◌, List, [], ◌∷◌, ◌++◌, length, get_or, take, drop, ◌==◌, nat_lt, refl}
 use Rattle.std.proofs.Common.{sym, ap, ◌∙◌, inl, inr, ⊎_elim, le_of_suc-le-suc, arith, length-append, ltb-true, ltb-false, eqb-true, eq-eqb}
 use Rattle.std.proofs.Math.Bool.{or-true}

@@ -1,10 +1,9 @@
 -- A function of numbers laid out as a list, and a function of a replica and a counter's name as a list of 21 rows, with the laws of both.
 -- Assumes nothing.
 use Rattle.std.specs.Prelude.{◌≡◌, ℕ, zero, suc, ◌+◌, ◌*◌, ◌/◌, ◌%◌, ◌<◌, Bool, ◌&&◌, ◌≢◌, List, [], ◌∷◌, length, get_or, set, replicate, ◌==◌}
+use Rattle.std.proofs.Common.{sym, ◌∙◌, le_of_suc-le-suc, length-set, ext_get_or, get_or-set_same, get_or-set_other, arith, eqb-true, eq-eqb, ne_eqb}
 use Rattle.std.proofs.Math.Path.{refl, ap, fun_ext}
-use Rattle.std.proofs.Common.{sym, ◌∙◌, le_of_suc-le-suc, length-set, ext_get_or, get_or-set_same, get_or-set_other}
-use native.Mathlib.Omega.{arith}
-use borrow.Author.Tests.{eqb-true, eqb-false, eq-eqb, ne_eqb}
+use borrow.Author.Tests.{eqb-false}
 use Rattle.terms.specs.Limits.{replicas_max, names, counters}
 use Rattle.terms.specs.Lists.{pick}
 use Rattle.terms.specs.ListLaws.{split}

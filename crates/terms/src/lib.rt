@@ -1,5 +1,7 @@
 // What all layers speak of: limits and the names of the counters, contents, conditions, events, and the numbers that are given back; the arrays
 // that are lent from one layer to the next; and small functions of numbers and lists.
+#![tactic(auto)]
+
 ghost use Rattle.std.specs.Prelude.{◌≡◌, min, take};
 ghost use Rattle.terms.specs.Numbers.{content_of, content_numbers, kind_of, kind_number, kit_number_of, answer_number};
 ghost use Rattle.terms.specs.Mark.{next_mark};
@@ -57,7 +59,7 @@ pub type Answers = [u32; EVENTS];
 // ---- words
 
 // What a certificate says. A content's kind, a and b are `numbers_of_content`.
-#[derive(Drop)]
+#[derive(Clone, Copy)]
 pub enum Content {
     // Of a request.
     Prepare(u32),
@@ -72,14 +74,14 @@ pub enum Content {
 }
 
 // A content chosen over its numbers, or none.
-#[derive(Drop)]
+#[derive(Clone, Copy)]
 pub enum ContentChoice {
     Content(Content),
     Refused,
 }
 
 // What a replica is doing.
-#[derive(Drop)]
+#[derive(Clone, Copy)]
 pub enum Condition {
     Running,
     Halted,
@@ -88,7 +90,7 @@ pub enum Condition {
 }
 
 // The eight kinds of event.
-#[derive(Drop)]
+#[derive(Clone, Copy)]
 pub enum Kind {
     Submit,
     Issue,
@@ -101,14 +103,14 @@ pub enum Kind {
 }
 
 // A kind chosen over its number, or none.
-#[derive(Drop)]
+#[derive(Clone, Copy)]
 pub enum KindChoice {
     Kind(Kind),
     Refused,
 }
 
 // One event with its operands. The requests of a filed history stand beside it.
-#[derive(Drop)]
+#[derive(Clone, Copy)]
 pub enum Event {
     // A client submits this request to all active replicas.
     Submit(u32),
@@ -128,7 +130,7 @@ pub enum Event {
 }
 
 // What is said of a whole kit.
-#[derive(Drop)]
+#[derive(Clone, Copy)]
 pub enum KitAnswer {
     Accepted,
     // The bytes end too soon.
@@ -148,7 +150,7 @@ pub enum KitAnswer {
 }
 
 // What is said of one event.
-#[derive(Drop)]
+#[derive(Clone, Copy)]
 pub enum Answer {
     Taken,
     AlreadySubmitted,
@@ -168,7 +170,7 @@ pub enum Answer {
 }
 
 // What an event comes to, once it is decided: a refusal, or what is to be done. The replica concerned is known beside it.
-#[derive(Drop)]
+#[derive(Clone, Copy)]
 pub enum Decision {
     // The event is refused.
     Refuse(Answer),
@@ -186,7 +188,7 @@ pub enum Decision {
 }
 
 // What a replica does at what has reached it: its own record changes, and it may issue on its own counters; nothing else of the room is touched.
-#[derive(Drop)]
+#[derive(Clone, Copy)]
 pub enum Act {
     // Sender, value, request: it notes and commits the request.
     Prepare(usize, u32, u32),
@@ -205,6 +207,7 @@ pub enum Act {
 }
 
 // The content of a kind, a and b: kinds are 1 to 5, and a b that the kind does not use is 0.
+#[tactic(auto, unfolding(crate::specs::Numbers::content_of))]
 pub fn content_of(kind: u32, a: u32, b: u32) -> ContentChoice
     ensures { result ≡ content_of kind a b }
 {
@@ -250,6 +253,7 @@ pub fn numbers_of_content(c: Content) -> [u32; 3]
 }
 
 // The kind of a number: kinds are 1 to 8.
+#[tactic(auto, unfolding(crate::specs::Numbers::kind_of))]
 pub fn kind_of(n: u32) -> KindChoice
     ensures { result ≡ kind_of n }
 {
@@ -322,6 +326,7 @@ pub fn number_of_answer(a: Answer) -> u32
 }
 
 // The mark after one more request: twice the old mark, plus the request, both wrapping at 2^32.
+#[tactic(auto, unfolding(crate::specs::Mark::next_mark))]
 pub fn next_mark(mark: u32, request: u32) -> u32
     ensures { result ≡ next_mark mark request }
 {
