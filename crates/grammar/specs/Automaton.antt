@@ -7,16 +7,12 @@ use Rattle.terms.specs.Lists.{pick, within}
 use Rattle.terms.specs.Kit.{marks_active, marks_faulty, is_table_number, is_request}
 use Rattle.terms.specs.Numbers.{kind_of}
 use Rattle.terms.specs.declared.Kind.{Kind}
-use Rattle.terms.specs.declared.Kind.TheVariants as Kind
 use Rattle.terms.specs.declared.KindChoice.{KindChoice}
-use Rattle.terms.specs.declared.KindChoice.TheVariants as KindChoice
 use Rattle.terms.specs.declared.KitAnswer.{KitAnswer}
 use Rattle.terms.specs.declared.KitAnswer.TheVariants.{WrongSettings, WrongEvent, Excess}
 use Rattle.grammar.specs.Operands.{operands_of, operand_of, fits, filed_by}
 use Rattle.grammar.specs.declared.Phase.{Phase}
-use Rattle.grammar.specs.declared.Phase.TheVariants as Phase
 use Rattle.grammar.specs.declared.Said.{Said}
-use Rattle.grammar.specs.declared.Said.TheVariants as Said
 use Rattle.grammar.specs.declared.Judge.{Judge}
 use Rattle.grammar.specs.declared.Step.{Step}
 

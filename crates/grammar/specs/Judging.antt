@@ -2,14 +2,11 @@
 -- (`run`) and the parser's answer part by part (`after`); a phase that goes by one test (`phase`); from the inside outwards the phases of the
 -- requests, the operands, an event, the events, the table (its tally counts what the parser counts, `tally_is`) and the kit; last, with which
 -- answers the judge refuses (`refuses_fault`). Assumes nothing.
-use Rattle.std.specs.Prelude.{◌≡◌, Bool, false, ◌&&◌, ◌||◌, eqb, ◌⊎◌}
+use Rattle.std.specs.Prelude.{◌≡◌, Bool, false, ◌&&◌, ◌||◌, eqb, ◌⊎◌, List, [], ◌∷◌, ◌++◌, ℕ, zero, suc, ◌+◌, ◌-◌, ◌/◌, ◌≤◌, ◌<◌}
+use Rattle.std.proofs.Common.{◌∙◌, add-one, zero-add, inl, inr, arith, lt-ltb, le-ltb, eq-eqb, ne_eqb, ltb-true, leb-true}
 use Rattle.std.proofs.Math.Path.{refl, sym, ap}
-use Rattle.std.proofs.Common.{◌∙◌, add-one, zero-add, inl, inr}
 use Rattle.std.proofs.Math.Bool.{true}
-use mathlib.Core.List.{List, [], ◌∷◌, ◌++◌}
-use Prim.Native.Nat.{ℕ, zero, suc, ◌+◌, ◌-◌, ◌/◌, ◌≤◌, ◌<◌}
-use native.Mathlib.Omega.{arith}
-use borrow.Author.Tests.{lt-ltb, le-ltb, lt-leb, eq-eqb, ne_eqb, ltb-true, leb-true}
+use borrow.Author.Tests.{lt-leb}
 use Rattle.std.proofs.Math.Dec.{leb, ltb, eqb-suc-suc}
 use Rattle.std.proofs.Math.ListN.{get_or, length, length-append}
 use Rattle.std.proofs.lemmas.List.{get_or_at}
@@ -21,7 +18,6 @@ use Rattle.terms.specs.Kit.{Kit, marks_active, marks_faulty, is_table_number, is
 use Rattle.terms.specs.Numbers.{kind_of}
 use Rattle.terms.specs.declared.Kind.{Kind}
 use Rattle.terms.specs.declared.KindChoice.{KindChoice}
-use Rattle.terms.specs.declared.KindChoice.TheVariants as KindChoice
 use Rattle.terms.specs.declared.KitAnswer.{KitAnswer}
 use Rattle.terms.specs.declared.KitAnswer.TheVariants.{Accepted, Cut, WrongSettings, WrongEvent, Excess}
 use Rattle.grammar.specs.Operands.{operands_of, operand_of, fits, filed_by}
@@ -31,9 +27,7 @@ use Rattle.grammar.specs.Automaton.{Tally, Pending, State, Move, judge_of, step_
 use Rattle.grammar.specs.declared.operands.Operand.{Operand}
 use Rattle.grammar.specs.declared.operands.Operand.TheVariants.{Any, Replica, Name, Content, B, Request, K, E}
 use Rattle.grammar.specs.declared.Phase.{Phase}
-use Rattle.grammar.specs.declared.Phase.TheVariants as Phase
 use Rattle.grammar.specs.declared.Said.{Said}
-use Rattle.grammar.specs.declared.Said.TheVariants as Said
 use Rattle.grammar.specs.declared.Judge.{Judge}
 
 -- ---- the judge, fed a list
@@ -328,10 +322,10 @@ after_table f leader patience table ns =
     and_then (several count (entry (replicas f)) ms) (λ events rest.
     Read (record { f = f; leader = leader; patience = patience; table = table; events = events }) rest)))
 
-table_done : (f leader patience : ℕ) (s : State) (table ns : List ℕ) → s.size ≡ replicas f → tally_right s.size s.tally ≡ table_right f leader table
+table_done_lem : (f leader patience : ℕ) (s : State) (table ns : List ℕ) → s.size ≡ replicas f → tally_right s.size s.tally ≡ table_right f leader table
     → heard (table_done s) ns ≡ after (after_table f leader patience table ns) (λ k. ended)
 unfolding table_done feed_of at_count
-table_done f leader patience s table ns is same =
+table_done_lem f leader patience s table ns is same =
     rw same
     (split (table_right f leader table)
     (λ t. rw t
@@ -354,7 +348,7 @@ table_all f leader patience ns few below =
     ∙ ap (λ (m : ℕ). after (several m (alone is_table_number WrongSettings) ns) then) (sym (add-one (f + f)))
     ∙ after_ext (several (replicas f) (alone is_table_number WrongSettings) ns) _ _ (λ t ms e.
     let long = ((table_reads (replicas f)).only ns t ms e).1.0 in
-    table_done f leader patience (with_tally s (tally_all s.tally s.turn t)) t ms refl (tally_is f leader t few below long))
+    table_done_lem f leader patience (with_tally s (tally_all s.tally s.turn t)) t ms refl (tally_is f leader t few below long))
     ∙ sym (after_then (several (replicas f) (alone is_table_number WrongSettings) ns) _ (λ k. ended))
 
 -- the judge, fed the numbers one at a time, says what the parser says

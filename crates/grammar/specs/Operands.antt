@@ -5,11 +5,8 @@ use Rattle.terms.specs.Lists.{pick, within}
 use Rattle.terms.specs.Kit.{is_request}
 use Rattle.terms.specs.Numbers.{content_of}
 use Rattle.terms.specs.declared.Kind.{Kind}
-use Rattle.terms.specs.declared.Kind.TheVariants as Kind
 use Rattle.terms.specs.declared.ContentChoice.{ContentChoice}
-use Rattle.terms.specs.declared.ContentChoice.TheVariants as ContentChoice
 use Rattle.terms.specs.declared.Event.{Event}
-use Rattle.terms.specs.declared.Event.TheVariants as Event
 use Rattle.grammar.specs.declared.operands.Operand.{Operand}
 use Rattle.grammar.specs.declared.operands.Operand.TheVariants.{Any, Replica, Name, Content, B, Request, K, E}
 

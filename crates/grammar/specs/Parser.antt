@@ -5,9 +5,7 @@ use Rattle.terms.specs.Limits.{replicas, faults_max, ticks_max, events_max}
 use Rattle.terms.specs.Lists.{pick, within, count_of}
 use Rattle.terms.specs.Kit.{Kit, Entry, marks_active, marks_faulty, is_table_number, is_request}
 use Rattle.terms.specs.Numbers.{kind_of}
-use Rattle.terms.specs.declared.Kind.{Kind}
 use Rattle.terms.specs.declared.KindChoice.{KindChoice}
-use Rattle.terms.specs.declared.KindChoice.TheVariants as KindChoice
 use Rattle.terms.specs.declared.KitAnswer.{KitAnswer}
 use Rattle.terms.specs.declared.KitAnswer.TheVariants.{Accepted, Cut, WrongSettings, WrongEvent, Excess}
 use Rattle.grammar.specs.Operands.{operands_of, fits, filed_by, event_of}

@@ -2,9 +2,8 @@
 -- end has read, and `Reads` (exactly the numbers of the good things) for a number by itself and for so many things; the operands of a kind and its
 -- event; a kit (`kit_reads`), and the laws by which others know it; nothing is refused with "accepted" (`answer_accepted`). Assumes nothing.
 use Rattle.std.specs.Prelude.{◌≡◌, refl, Bool, true, false, ◌||◌, List, [], ◌∷◌, ◌++◌, ℕ, zero, suc, ◌+◌, ◌-◌, ◌≤◌, ◌<◌, eqb, leb, ltb, get_or}
-use Rattle.std.proofs.Common.{sym, ap, ◌∙◌, append_assoc, append-nil, arith}
+use Rattle.std.proofs.Common.{sym, ap, ◌∙◌, append_assoc, append-nil, arith, ltb-true, leb-true, eqb-true, lt-ltb, le-leb, eq-eqb, ne_eqb}
 use Rattle.std.proofs.Math.Option.{some}
-use borrow.Author.Tests.{ltb-true, leb-true, eqb-true, lt-ltb, le-leb, eq-eqb, ne_eqb}
 use Rattle.std.proofs.Math.ListN.{length}
 use Rattle.terms.specs.Limits.{replicas, faults_max, ticks_max, events_max, requests_max}
 use Rattle.terms.specs.Lists.{within, count_of, nth}
@@ -12,15 +11,10 @@ use Rattle.terms.specs.ListLaws.{split, no_way, and_l, and_r, all_of_at, all_of_
 use Rattle.terms.specs.Kit.{Kit, Entry, GoodKit, GoodEntry, GoodEvent, marks_active, marks_faulty, is_table_number, is_request, kit_numbers, entry_numbers, entries_numbers, event_numbers}
 use Rattle.terms.specs.Numbers.{kind_of, kind_number, content_of, content_numbers}
 use Rattle.terms.specs.declared.Content.{Content}
-use Rattle.terms.specs.declared.Content.TheVariants as Content
 use Rattle.terms.specs.declared.ContentChoice.{ContentChoice}
-use Rattle.terms.specs.declared.ContentChoice.TheVariants as ContentChoice
 use Rattle.terms.specs.declared.Event.{Event}
-use Rattle.terms.specs.declared.Event.TheVariants as Event
 use Rattle.terms.specs.declared.Kind.{Kind}
-use Rattle.terms.specs.declared.Kind.TheVariants as Kind
 use Rattle.terms.specs.declared.KindChoice.{KindChoice}
-use Rattle.terms.specs.declared.KindChoice.TheVariants as KindChoice
 use Rattle.terms.specs.declared.KitAnswer.{KitAnswer}
 use Rattle.terms.specs.declared.KitAnswer.TheVariants.{Accepted, WrongSettings, WrongEvent}
 use Rattle.grammar.specs.Operands.{operands_of, fits, filed_by, filed_of, event_of, uses_b}

@@ -1,4 +1,6 @@
 // The grammar of a kit: a judge that takes a kit's numbers one at a time.
+#![tactic(auto)]
+
 ghost use Rattle.std.specs.Prelude.{◌≡◌, ◌||◌, ◌&&◌, ◌∷◌, [], eqb, ◌-◌, ◌<◌};
 ghost use Rattle.terms.specs.Lists.{pick};
 ghost use Rattle.grammar.specs.Automaton.{step_of, judge_of, state_of, tally_of, pending_of, with_tally, with_pending, begun, kept, more_of, done_of, refused_of, at_f, at_leader, at_patience, at_table, tallied, table_done, at_count, at_gap, at_kind, operand_goes, filing, at_operand, at_request, completed, plus_one, feed_of, fresh};
@@ -9,7 +11,7 @@ use terms::{Kind, KindChoice, KitAnswer};
 pub mod operands;
 
 // What the next number is.
-#[derive(Drop)]
+#[derive(Clone, Copy)]
 pub enum Phase {
     F,
     Leader,
@@ -28,7 +30,7 @@ pub enum Phase {
 }
 
 // What the judge says of a number.
-#[derive(Drop)]
+#[derive(Clone, Copy)]
 pub enum Said {
     More,
     // The kit is complete.
@@ -38,7 +40,7 @@ pub enum Said {
 
 // The judge: what a kit's numbers so far leave to know. Four fields of a byte and then numbers of four, so that it has no padding: it
 // goes by value before every number, and gaps in it would be copied too.
-#[derive(Drop)]
+#[derive(Clone, Copy)]
 pub struct Judge {
     pub phase: Phase,
     // The kind of the event at hand, and how many of its operands were read.
@@ -64,7 +66,7 @@ pub struct Judge {
     pub requests: u32,
 }
 
-#[derive(Drop)]
+#[derive(Clone, Copy)]
 pub struct Step {
     pub said: Said,
     pub judge: Judge,
@@ -124,6 +126,7 @@ fn refused(answer: KitAnswer, phase: Phase, s: Judge) -> Step
 }
 
 // f is 1 to 3.
+#[tactic(auto, unfolding(crate::specs::Automaton::at_f))]
 fn at_f(s: Judge, n: u32) -> Step
     ensures { result ≡ step_of (at_f (state_of s) n) }
 {
@@ -138,6 +141,7 @@ fn at_f(s: Judge, n: u32) -> Step
 }
 
 // The leader is one of the replicas.
+#[tactic(auto, unfolding(crate::specs::Automaton::at_leader))]
 fn at_leader(s: Judge, n: u32) -> Step
     ensures { result ≡ step_of (at_leader (state_of s) n) }
 {
@@ -150,6 +154,7 @@ fn at_leader(s: Judge, n: u32) -> Step
 }
 
 // The patience is 1 to 2^28-1 ticks.
+#[tactic(auto, unfolding(crate::specs::Automaton::at_patience))]
 fn at_patience(s: Judge, n: u32) -> Step
     ensures { result ≡ step_of (at_patience (state_of s) n) }
 {
@@ -167,6 +172,7 @@ fn at_patience(s: Judge, n: u32) -> Step
 }
 
 // One more where the test holds, as far as 32 bits go.
+#[tactic(auto, unfolding(crate::specs::Automaton::plus_one))]
 fn plus_one(holds: bool, x: u32) -> u32
     ensures { result ≡ plus_one holds x }
 {
@@ -194,6 +200,7 @@ fn minus_one(x: u32) -> u32
 }
 
 // The table with one more replica.
+#[tactic(auto, unfolding(crate::specs::Automaton::tallied))]
 fn counted(s: Judge, n: u32) -> Judge
     ensures { result ≡ judge_of s.phase (with_tally (state_of s) (tallied (tally_of s) s.turn n)) }
 {
@@ -207,6 +214,7 @@ fn counted(s: Judge, n: u32) -> Judge
 }
 
 // After the table's last replica: the leader is active, f+1 are active, at most f faulty.
+#[tactic(auto, unfolding(crate::specs::Automaton::table_done))]
 fn table_done(s: Judge) -> Step
     ensures { result ≡ step_of (table_done (state_of s)) }
 {
@@ -223,6 +231,7 @@ fn table_done(s: Judge) -> Step
 }
 
 // A replica's number is 1 if active, plus 2 if faulty.
+#[tactic(auto, unfolding(crate::specs::Automaton::at_table))]
 fn at_table(s: Judge, n: u32) -> Step
     ensures { result ≡ step_of (at_table (state_of s) n) }
 {
@@ -237,6 +246,7 @@ fn at_table(s: Judge, n: u32) -> Step
 }
 
 // At most 4,096 events.
+#[tactic(auto, unfolding(crate::specs::Automaton::at_count))]
 fn at_count(s: Judge, n: u32) -> Step
     ensures { result ≡ step_of (at_count (state_of s) n) }
 {
@@ -252,6 +262,7 @@ fn at_count(s: Judge, n: u32) -> Step
 }
 
 // A gap is 0 to 2^28-1 ticks.
+#[tactic(auto, unfolding(crate::specs::Automaton::at_gap))]
 fn at_gap(s: Judge, n: u32) -> Step
     ensures { result ≡ step_of (at_gap (state_of s) n) }
 {
@@ -262,6 +273,7 @@ fn at_gap(s: Judge, n: u32) -> Step
 }
 
 // An event is complete.
+#[tactic(auto, unfolding(crate::specs::Automaton::completed))]
 fn complete(s: Judge) -> Step
     ensures { result ≡ step_of (completed (state_of s)) }
 {
@@ -274,6 +286,7 @@ fn complete(s: Judge) -> Step
 }
 
 // The operands are complete: kind 8 has its requests still to come.
+#[tactic(auto, unfolding(crate::specs::Automaton::filing))]
 fn file(s: Judge) -> Step
     ensures { result ≡ step_of (filing (state_of s)) }
 {
@@ -288,6 +301,7 @@ fn file(s: Judge) -> Step
 }
 
 // To the next operand, if there is one.
+#[tactic(auto, unfolding(crate::specs::Automaton::operand_goes))]
 fn operand_goes(s: Judge) -> Step
     ensures { result ≡ step_of (operand_goes (state_of s)) }
 {
@@ -322,6 +336,7 @@ fn begin(kind: Kind, s: Judge) -> Judge
 }
 
 // A kind is 1 to 8.
+#[tactic(auto, unfolding(crate::specs::Automaton::at_kind))]
 fn at_kind(s: Judge, n: u32) -> Step
     ensures { result ≡ step_of (at_kind (state_of s) n) }
 {
@@ -355,6 +370,7 @@ fn keep(s: Judge, n: u32) -> Judge
 }
 
 // An operand is what the table has at its place.
+#[tactic(auto, unfolding(crate::specs::Automaton::at_operand))]
 fn at_operand(s: Judge, n: u32) -> Step
     ensures { result ≡ step_of (at_operand (state_of s) n) }
 {
@@ -372,6 +388,7 @@ fn at_operand(s: Judge, n: u32) -> Step
 }
 
 // A request is not 0.
+#[tactic(auto, unfolding(crate::specs::Automaton::at_request))]
 fn at_request(s: Judge, n: u32) -> Step
     ensures { result ≡ step_of (at_request (state_of s) n) }
 {
@@ -388,6 +405,7 @@ fn at_request(s: Judge, n: u32) -> Step
 
 impl Judge {
     // Before a kit's first number.
+    #[tactic(auto, unfolding(crate::specs::Automaton::fresh))]
     pub fn new() -> Judge
         ensures { result ≡ fresh }
     {
@@ -410,6 +428,7 @@ impl Judge {
     }
 
     // What is said of the next number, and the judge after it.
+    #[tactic(auto, unfolding(crate::specs::Automaton::feed_of))]
     pub fn feed(self, n: u32) -> Step
         ensures { result ≡ feed_of self n }
     {

@@ -8,7 +8,7 @@ use self::Operand::{Any, B, Content, E, K, Name, Replica, Request};
 use terms::{ContentChoice, Event, Kind};
 
 // What an operand has to be.
-#[derive(Drop)]
+#[derive(Clone, Copy)]
 pub enum Operand {
     // Any number.
     Any,
@@ -59,6 +59,7 @@ fn in_row(a: Operand, b: Operand, c: Operand, d: Operand, e: Operand, at: u8) ->
 }
 
 // The operand at a place of a kind: document 01's table, each row filled up to five.
+#[tactic(auto, unfolding(crate::specs::Operands::operand_of))]
 pub fn operand_of(kind: Kind, at: u8) -> Operand
     ensures { result ≡ operand_of kind at }
 {
@@ -125,6 +126,7 @@ pub fn operand_fits(
 }
 
 // How many requests k and e file, none where they are more than 64.
+#[tactic(auto, unfolding(crate::specs::Operands::filed_of))]
 fn filed_of(k: u32, e: u32) -> u32
     ensures { result ≡ filed_of k e }
 {

@@ -1,26 +1,19 @@
 -- A turn of the checking loop, on plain values: the judge j has heard the numbers before the place `at`, and what it will say of those from
 -- there on is what is said of the whole. Assumes nothing.
-use mathlib.Core.Path.{◌≡◌, refl, sym, ap, ◌∙◌}
-use mathlib.Core.List.{List, ◌∷◌}
-use mathlib.Core.Logic.{⊎_elim, by_cases, inr}
-use Prim.Native.Nat.{ℕ, zero, suc, ◌+◌, ◌-◌, ◌<◌, ◌≤◌}
-use native.Mathlib.Omega.{arith}
-use native.Mathlib.Decide.{dec_lt}
-use borrow.Author.Tests.{lt-ltb, le-ltb, le-leb, lt-leb}
-use lib.Dec.{ltb}
-use lib.ListN.{length}
+use Rattle.std.proofs.Common.{◌≡◌, refl, sym, ap, ◌∙◌, List, ◌∷◌, ⊎_elim, inr, ℕ, zero, suc, ◌+◌, ◌-◌, ◌<◌, ◌≤◌, arith, lt-ltb, le-ltb, le-leb, ltb, length}
+use Rattle.std.proofs.Math.Decide.{dec_lt}
+use Rattle.std.proofs.Math.Logic.{by_cases}
+use Rattle.std.proofs.lemmas.Bool.{lt-leb}
 use Rattle.terms.specs.Lists.{pick}
 use Rattle.terms.specs.declared.KitAnswer.{KitAnswer}
-use Rattle.terms.specs.declared.KitAnswer.TheVariants as KitAnswer
 use Rattle.number.specs.Number.{number_at}
-use Rattle.number.specs.NumberLaws.{moves_on_lem, past_end}
+use Rattle.number.proofs.NumberLaws.{moves_on_lem, past_end}
 use Rattle.number.specs.declared.Found.{Found}
 use Rattle.number.specs.declared.Found.TheVariants.{Number, Cut, Bad}
 use Rattle.grammar.specs.Automaton.{feed_of, fresh}
 use Rattle.grammar.specs.Judging.{run, ended, judge_parses, refuses_fault, IsFault}
 use Rattle.grammar.specs.declared.Judge.{Judge}
 use Rattle.grammar.specs.declared.Said.{Said}
-use Rattle.grammar.specs.declared.Said.TheVariants as Said
 use Rattle.kit.specs.Reader.{Numbers, Ending, Whole, Part, Wrong, gathered, numbers_from, numbers_in, closed, check_of}
 
 -- what the judge says of numbers and of what stands behind them
@@ -74,9 +67,6 @@ from_found (suc m) s at j h =
 module _ {s : List ℕ} {j : Judge} {at : ℕ} (c : Checking s j at) where
   step : check_of s ≡ said j (gathered (numbers_from (c.most - 1) s) (number_at s at))
   step = c.same ∙ from_found c.most s at j c.enough
-
-  pub cut : number_at s at ≡ Cut → KitAnswer.Cut ≡ check_of s
-  cut e = sym (step ∙ rw e)
 
   pub misspelled : number_at s at ≡ Bad → KitAnswer.Misspelled ≡ check_of s
   misspelled e = sym (step ∙ rw e)

@@ -1,24 +1,15 @@
 -- What the parts of `open` and `next_event` give together, on plain values. Assumes nothing.
-use mathlib.Core.Path.{◌≡◌, refl, ◌∙◌}
-use mathlib.Core.List.{List, [], ◌∷◌, ◌++◌}
-use mathlib.Core.Logic.{by_cases}
-use Prim.Native.Nat.{ℕ, zero, suc, ◌+◌, ◌-◌, ◌≤◌}
-use native.Mathlib.Omega.{arith}
-use native.Mathlib.Nat.{zero-add}
-use native.Mathlib.Decide.{dec_lt}
-use borrow.Author.Tests.{le-leb, lt-leb}
-use lib.ListN.{length, get_or, drop, replicate}
+use Rattle.std.proofs.Common.{◌≡◌, refl, ◌∙◌, List, [], ◌∷◌, ◌++◌, ℕ, zero, suc, ◌+◌, ◌-◌, ◌≤◌, arith, zero-add, le-leb, length, get_or, drop, replicate}
+use Rattle.std.proofs.Math.Decide.{dec_lt}
+use Rattle.std.proofs.Math.Logic.{by_cases}
+use Rattle.std.proofs.lemmas.Bool.{lt-leb}
 use Rattle.terms.specs.Limits.{replicas_max, requests_max}
 use Rattle.terms.specs.Lists.{pick}
 use Rattle.terms.specs.Numbers.{kind_of, content_of}
 use Rattle.terms.specs.declared.ContentChoice.{ContentChoice}
-use Rattle.terms.specs.declared.ContentChoice.TheVariants as ContentChoice
 use Rattle.terms.specs.declared.Event.{Event}
-use Rattle.terms.specs.declared.Event.TheVariants as Event
 use Rattle.terms.specs.declared.Kind.{Kind}
-use Rattle.terms.specs.declared.Kind.TheVariants as Kind
 use Rattle.terms.specs.declared.KindChoice.{KindChoice}
-use Rattle.terms.specs.declared.KindChoice.TheVariants as KindChoice
 use Rattle.number.specs.Number.{over}
 use Rattle.grammar.specs.Operands.{operands_of, event_of, issue_of, filed_by, filed_of}
 use Rattle.kit.specs.Reader.{taken_at, stretch_at, Stretched, size_of, padded, settings_in, is_file, RequestsRead, OfKind, entry_at, next_in, filed_into, list_after, Stepped, operands_at, requests_at}
@@ -49,10 +40,6 @@ pad_at (x ∷ l) n (suc i) = pad_at l n i
 
 -- ---- the settings
 
-pub size_most : (f : ℕ) → size_of f ≤ replicas_max
-size_most f =
-    by_cases (dec_lt 3 f) (λ big. rw (lt-leb f 3 big) (omega arith)) (λ small. rw (le-leb f 3 (omega arith)) (omega arith))
-
 pub opened : (bytes : List ℕ) (f leader patience count : Taken) (size at : ℕ) (table : List ℕ)
     → f ≡ taken_at bytes 0 → leader ≡ taken_at bytes f.next → patience ≡ taken_at bytes leader.next → size ≡ size_of f.value
     → Stretched (stretch_at size bytes patience.next) (replicate replicas_max 0) table at → count ≡ taken_at bytes at
@@ -64,16 +51,6 @@ opened bytes f leader patience count size at table is_f is_leader is-patience is
     rw (is-count, st.next, st.filled) (rw (over_zeros 7 (stretch_at size bytes patience.next).numbers) (rw (is-size, is-patience, is_leader, is_f)))
 
 -- ---- an event
-
-pub operands_few : (kind : Kind) → length (operands_of kind) ≤ 5
-operands_few Kind.Submit = omega arith
-operands_few Kind.Issue = omega arith
-operands_few Kind.Deliver = omega arith
-operands_few Kind.Hand = omega arith
-operands_few Kind.Panic = omega arith
-operands_few Kind.Idle = omega arith
-operands_few Kind.Build = omega arith
-operands_few Kind.File = omega arith
 
 pub filed_few : (kind : Kind) (k e : ℕ) → filed_by kind k e ≤ requests_max
 unfolding filed_of

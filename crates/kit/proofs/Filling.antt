@@ -1,12 +1,7 @@
 -- Turns of the loops that fill a lent list from the front, on plain values: what is still to be stored makes of the list as it stands what
 -- all that is to be stored makes of the list as it was. Assumes nothing.
-use mathlib.Core.Path.{◌≡◌, refl, ap, ◌∙◌}
-use mathlib.Core.List.{List, [], ◌∷◌}
-use Prim.Native.Nat.{ℕ, zero, suc, ◌+◌, ◌-◌, ◌<◌, ◌≤◌}
-use native.Mathlib.Numerals.{add-one}
-use native.Mathlib.Omega.{arith}
-use lib.ListN.{length, set, length-set}
-use lib.Seq.{sets, sets-eq}
+use Rattle.std.proofs.Common.{◌≡◌, refl, ap, ◌∙◌, List, [], ◌∷◌, ℕ, zero, suc, ◌+◌, ◌-◌, ◌<◌, ◌≤◌, add-one, arith, length, set, length-set}
+use Rattle.std.proofs.Math.Seq.{sets, sets-eq}
 use Rattle.number.specs.Number.{over}
 use Rattle.kit.specs.Reader.{taken_at, stretch_at, Stretched}
 
@@ -31,11 +26,6 @@ pub record Filling (s : List ℕ) (at count : ℕ) (out₀ out : List ℕ) (i ne
   pub within : i ≤ count
   pub ends : (stretch_at (count - i) s next).next ≡ (stretch_at count s at).next
   pub storing : Storing out₀ (stretch_at count s at).numbers out i (stretch_at (count - i) s next).numbers
-
-pub filling_first : (s : List ℕ) (at count : ℕ) (out : List ℕ) → Filling s at count out out 0 at
-filling_first s at count out =
-    let all : count - 0 ≡ count = omega arith in
-    record { within = omega arith; ends = rw all; storing = record { long = refl; same = rw all } }
 
 module _ {s : List ℕ} {at count : ℕ} {out₀ out : List ℕ} {i next : ℕ} (f : Filling s at count out₀ out i next) where
   pub filling_next : i < count → Filling s at count out₀ (set out i (taken_at s next).value) (i + 1) (taken_at s next).next

@@ -2,4 +2,3 @@ pub mod Checking
 pub mod Filling
 pub mod Writing
 pub mod Events
-pub mod Outcomes

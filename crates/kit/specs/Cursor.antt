@@ -12,12 +12,9 @@ use Rattle.terms.specs.Kit.{Kit, Entry, GoodKit, GoodEvent, kit_numbers, entry_n
 use Rattle.terms.specs.Numbers.{kind_of, kind_number, content_of}
 use Rattle.terms.specs.declared.Content.TheVariants as Content
 use Rattle.terms.specs.declared.Event.{Event}
-use Rattle.terms.specs.declared.Event.TheVariants as Event
 use Rattle.terms.specs.declared.Kind.{Kind}
-use Rattle.terms.specs.declared.Kind.TheVariants as Kind
 use Rattle.terms.specs.declared.KindChoice.TheVariants as KindChoice
 use Rattle.terms.specs.declared.KitAnswer.{KitAnswer}
-use Rattle.terms.specs.declared.KitAnswer.TheVariants as KitAnswer
 use Rattle.number.specs.Number.{Bytes}
 use Rattle.grammar.specs.Operands.{operands_of, event_of, filed_by, filed_of}
 use Rattle.grammar.specs.Parser.{kit_answer}

@@ -40,10 +40,10 @@ module _ (kit : Kit) (words : Words (kit_numbers kit)) where
       (words_right (length kit.events ∷ []) (entries_numbers kit.events) (words_right (kit.f ∷ kit.leader ∷ kit.patience ∷ kit.table) behind words))
 
   -- with other events
-  pub other-words
+  pub other_words
       : (es : List Entry) → length es < 2 ^ 32 → EventWords es
       → Words (kit_numbers (record { f = kit.f; leader = kit.leader; patience = kit.patience; table = kit.table; events = es }))
   unfolding kit_numbers
-  other-words es few all =
+  other_words es few all =
       words_append (kit.f ∷ kit.leader ∷ kit.patience ∷ kit.table) (length es ∷ entries_numbers es) settings_words
       (words_cons (length es) (entries_numbers es) few (each_words es all))

@@ -1,19 +1,15 @@
 -- What a kit's bytes say, each defined on all bytes. In order: the numbers that they spell; their kit number and, of accepted ones, the kit
 -- (`check_of`); one number after another from a place on; the settings (`settings_in`); the event at a place, and what it leaves in the list that is
 -- lent for requests (`next_in`, `list_after`). Laws: SpellingLaws, Cursor. Assumes nothing.
-use Rattle.std.specs.Prelude.{◌≡◌, Bool, true, false, List, [], ◌∷◌, ◌++◌, ℕ, zero, suc, ◌+◌, ◌-◌, leb, length, get_or, replicate}
+use Rattle.std.specs.Prelude.{◌≡◌, Bool, true, false, List, [], ◌∷◌, ◌++◌, ℕ, zero, suc, ◌-◌, leb, length, get_or, replicate}
 use Rattle.terms.specs.Limits.{replicas, faults_max, requests_max}
 use Rattle.terms.specs.Lists.{pick}
 use Rattle.terms.specs.Kit.{Kit}
 use Rattle.terms.specs.Numbers.{kind_of}
 use Rattle.terms.specs.declared.Event.{Event}
-use Rattle.terms.specs.declared.Event.TheVariants as Event
 use Rattle.terms.specs.declared.Kind.{Kind}
-use Rattle.terms.specs.declared.Kind.TheVariants as Kind
 use Rattle.terms.specs.declared.KindChoice.{KindChoice}
-use Rattle.terms.specs.declared.KindChoice.TheVariants as KindChoice
 use Rattle.terms.specs.declared.KitAnswer.{KitAnswer}
-use Rattle.terms.specs.declared.KitAnswer.TheVariants as KitAnswer
 use Rattle.number.specs.Number.{number_at, over}
 use Rattle.number.specs.declared.Found.{Found}
 use Rattle.number.specs.declared.Found.TheVariants.{Number, Cut, Bad}
@@ -53,14 +49,14 @@ numbers_in bytes = numbers_from (length bytes) bytes 0
 
 -- an answer, where "accepted" and "ends too soon" become others
 abbrev pub instead : KitAnswer → KitAnswer → KitAnswer → KitAnswer
-instead accepted cut KitAnswer.Accepted = accepted
-instead accepted cut KitAnswer.Cut = cut
-instead accepted cut KitAnswer.Misspelled = KitAnswer.Misspelled
-instead accepted cut KitAnswer.WrongSettings = KitAnswer.WrongSettings
-instead accepted cut KitAnswer.WrongEvent = KitAnswer.WrongEvent
-instead accepted cut KitAnswer.Excess = KitAnswer.Excess
-instead accepted cut KitAnswer.NoRoom = KitAnswer.NoRoom
-instead accepted cut KitAnswer.TooLong = KitAnswer.TooLong
+instead good short KitAnswer.Accepted = good
+instead good short KitAnswer.Cut = short
+instead good short KitAnswer.Misspelled = KitAnswer.Misspelled
+instead good short KitAnswer.WrongSettings = KitAnswer.WrongSettings
+instead good short KitAnswer.WrongEvent = KitAnswer.WrongEvent
+instead good short KitAnswer.Excess = KitAnswer.Excess
+instead good short KitAnswer.NoRoom = KitAnswer.NoRoom
+instead good short KitAnswer.TooLong = KitAnswer.TooLong
 
 -- the answer for the numbers, with what stands behind them: bytes behind a whole kit are too many, whatever they are; a kit that wants one
 -- more number meets the end of the bytes, or one that is spelled wrong

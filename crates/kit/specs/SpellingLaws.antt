@@ -8,7 +8,7 @@ use Rattle.std.proofs.lemmas.Bool.{lt-leb}
 use Rattle.std.proofs.Math.Seq.{drop-append_seam}
 use Rattle.terms.specs.ListLaws.{no_way, nth-append, nth_app_inv}
 use Rattle.number.specs.Number.{number_at, spelling, Bytes}
-use Rattle.number.specs.NumberLaws.{spelling_reads_from, one_spelling, spelling_length_lem, moves_on_lem}
+use Rattle.number.proofs.NumberLaws.{spelling_reads_from, one_spelling, spelling_length_lem, moves_on_lem}
 use Rattle.number.specs.declared.Found.{Found}
 use Rattle.number.specs.declared.Found.TheVariants.{Number, Cut, Bad}
 use Rattle.kit.specs.Spelling.{spellings, Words}

@@ -5,7 +5,6 @@ use Rattle.std.proofs.Common.{sym, ◌∙◌}
 use Rattle.terms.specs.Kit.{Kit}
 use Rattle.terms.specs.Numbers.{kit_number_of}
 use Rattle.terms.specs.declared.KitAnswer.{KitAnswer}
-use Rattle.terms.specs.declared.KitAnswer.TheVariants as KitAnswer
 use Rattle.number.specs.Number.{Bytes, number_at}
 use Rattle.grammar.specs.Parser.{parse, kit_answer}
 use Rattle.kit.specs.Spelling.{spellings, Words, Spells}

@@ -3,7 +3,6 @@
 use Rattle.std.specs.Prelude.{◌≡◌, Bool, true, false, List, ℕ, leb, length}
 use Rattle.terms.specs.Lists.{pick}
 use Rattle.terms.specs.declared.KitAnswer.{KitAnswer}
-use Rattle.terms.specs.declared.KitAnswer.TheVariants as KitAnswer
 use Rattle.number.specs.Number.{over}
 use Rattle.grammar.specs.Parser.{kit_answer}
 use Rattle.kit.specs.Spelling.{spellings}

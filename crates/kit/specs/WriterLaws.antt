@@ -6,7 +6,6 @@ use Rattle.terms.specs.ListLaws.{split, no_way}
 use Rattle.terms.specs.Kit.{Kit, kit_numbers}
 use Rattle.terms.specs.Numbers.{kit_number_of}
 use Rattle.terms.specs.declared.KitAnswer.{KitAnswer}
-use Rattle.terms.specs.declared.KitAnswer.TheVariants as KitAnswer
 use Rattle.number.specs.Number.{over, Bytes}
 use Rattle.grammar.specs.Parser.{kit_answer}
 use Rattle.grammar.specs.ParserLaws.{accepted_good, accepted_numbers, answer_accepted, good_accepted}
@@ -14,7 +13,6 @@ use Rattle.grammar.specs.Automaton.{feed_of, fresh}
 use Rattle.grammar.specs.Judging.{run, ended, goes, judge_parses, refuses_fault, IsFault}
 use Rattle.grammar.specs.declared.Judge.{Judge}
 use Rattle.grammar.specs.declared.Said.{Said}
-use Rattle.grammar.specs.declared.Said.TheVariants as Said
 use Rattle.kit.specs.Spelling.{spellings, Words, Spells}
 use Rattle.kit.specs.Reader.{Ending, Whole, Part, Wrong, numbers_in, instead, closed, check_of, kit_of}
 use Rattle.kit.specs.Cursor.{spells_numbers, spells_accepted, accepted_spells}

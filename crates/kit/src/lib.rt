@@ -1,4 +1,6 @@
 // The reader and the writer of a kit: its bytes, number by number, before the judge.
+#![tactic(auto)]
+
 ghost use Rattle.std.specs.Prelude.{◌≡◌, ◌≤◌, length};
 ghost use Rattle.number.specs.Number.{over};
 ghost use Rattle.kit.specs.Reader.{check_of, taken_at, stretch_at, size_of, settings_in, Stepped, Stretched, OfKind, RequestsRead};
@@ -10,14 +12,14 @@ use terms::{Event, Kind, KindChoice, KitAnswer};
 pub mod writer;
 
 // A number, and the place after it.
-#[derive(Drop)]
+#[derive(Clone, Copy)]
 pub struct Taken {
     pub value: u32,
     pub next: usize,
 }
 
 // What a kit says before its events: f, 2f+1, the leader, the patience, the table, how many events, and the place of the first.
-#[derive(Drop)]
+#[derive(Clone, Copy)]
 pub struct Settings {
     pub f: u32,
     pub size: usize,
@@ -29,7 +31,7 @@ pub struct Settings {
 }
 
 // An event with its gap, how many requests it files, and the place of the event after it.
-#[derive(Drop)]
+#[derive(Clone, Copy)]
 pub struct Next {
     pub gap: u32,
     pub event: Event,
@@ -75,6 +77,7 @@ pub fn check(bytes: &[u8]) -> KitAnswer
 }
 
 // The number at a place, or 0 where there is none.
+#[tactic(auto, unfolding(crate::specs::Reader::taken_at))]
 fn take(bytes: &[u8], at: usize) -> Taken
     ensures { result ≡ taken_at bytes.now at }
 {

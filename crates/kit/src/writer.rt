@@ -11,7 +11,7 @@ use number::{Found, Wrote};
 use terms::KitAnswer;
 
 // What became of a kit that was written or read, and how many bytes or numbers were filled in.
-#[derive(Drop)]
+#[derive(Clone, Copy)]
 pub struct Outcome {
     pub answer: KitAnswer,
     pub count: usize,
@@ -99,6 +99,7 @@ fn put(numbers: &[u32], out: &mut [u8]) -> usize
 }
 
 // Writes a kit. All its numbers are judged first, as a reader would, then the room; nothing is written before that.
+#[tactic(auto, unfolding(crate::specs::Writer::write_of))]
 pub fn write_kit(numbers: &[u32], out: &mut [u8]) -> Outcome
     ensures { KitWritten numbers.now out.old out.new result }
 {
@@ -144,6 +145,7 @@ fn count_numbers(bytes: &[u8]) -> usize
 }
 
 // Reads a kit back as its numbers. The bytes are judged first, then the room; nothing is filled in before that.
+#[tactic(auto, using(crate::proofs::Writing::stretch_numbers), unfolding(crate::specs::Writer::read_of))]
 pub fn read_kit(bytes: &[u8], numbers: &mut [u32]) -> Outcome
     ensures { KitRead bytes.now numbers.old numbers.new result }
 {

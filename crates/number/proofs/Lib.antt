@@ -1,3 +1,5 @@
-pub mod TopBit
+pub mod GroupLaws
+pub mod ReasonLaws
+pub mod NumberLaws
 pub mod Reading
 pub mod Writing

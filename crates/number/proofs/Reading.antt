@@ -1,34 +1,18 @@
--- A read's first group, its fifth, and the loop of `later` between them, on plain values: s are the bytes, i the place, bits what the groups
+-- A read's first group, and the loop of `later` behind it, on plain values: s are the bytes, i the place, bits what the groups
 -- before it make, below 2 ^ shift. What holds at the loop's head (`Head`): the groups from i on, over those bits, say what the whole says.
 -- Assumes nothing.
-use mathlib.Core.Path.{◌≡◌, refl, sym, ap, ◌∙◌}
-use mathlib.Core.List.{List}
-use mathlib.Core.Bool.{false}
-use mathlib.Core.Logic.{by_cases}
-use Prim.Native.Nat.{ℕ, suc, ◌+◌, ◌-◌, ◌*◌, ◌%◌, ◌^◌, ◌<◌, ◌≤◌}
-use native.Mathlib.Nat.{add-mul, mul_assoc, add_assoc, mul_comm, mod-eq_of_lt, mod-lt, lt_of_lt_of_le}
-use native.Mathlib.Numerals.{add-one}
-use native.Mathlib.Decide.{dec_lt}
-use native.Mathlib.Omega.{arith}
-use borrow.Author.Tests.{lt-ltb, le-ltb, eq-eqb, ne_eqb}
-use lib.Dec.{ltb, eqb}
-use lib.ListN.{length, get_or, drop, drop_of_length-le}
-use lib.Seq.{drop-cons}
-use lib.Arith.{digits_lt}
-use lib.Pow.{pow-add, pow_pos, pow_mono, shl_lt}
+use Rattle.std.proofs.Common.{◌≡◌, refl, sym, ap, ◌∙◌, List, false, ℕ, suc, ◌+◌, ◌-◌, ◌*◌, ◌%◌, ◌^◌, ◌<◌, ◌≤◌, add-mul, mul_assoc, add_assoc, mul_comm, mod-eq_of_lt, mod-lt, lt_of_lt_of_le, add-one, arith, lt-ltb, le-ltb, eq-eqb, ne_eqb, ltb, eqb, length, get_or, drop, drop-cons, pow-add, pow_pos, pow_mono, shl_lt}
+use Rattle.std.proofs.Math.Arith.{digits_lt}
+use Rattle.std.proofs.Math.Decide.{dec_lt}
+use Rattle.std.proofs.Math.Logic.{by_cases}
 use Rattle.terms.specs.Lists.{pick}
 use Rattle.number.specs.Number.{number_at}
-use Rattle.number.specs.Groups.{under, number_in, number_at_in}
+use Rattle.number.specs.Groups.{under, number_in}
+use Rattle.number.proofs.GroupLaws.{number_at_in}
 use Rattle.number.specs.declared.Found.{Found}
 use Rattle.number.specs.declared.Found.TheVariants.{Number, Cut, Bad}
 
 -- ---- one group at a place
-
-pub in_end : (more i : ℕ) (s : List ℕ) → length s ≤ i → number_in more i (drop i s) ≡ Cut
-in_end more i s h = rw (drop_of_length-le s h)
-
-in_fifth : (i : ℕ) (s : List ℕ) → i < length s → number_in 0 i (drop i s) ≡ pick (ltb (get_or s i 0) 16) (Number (get_or s i 0) (i + 1)) Bad
-in_fifth i s h = rw (drop-cons s i 0 h)
 
 in_more : (more i : ℕ) (s : List ℕ) → i < length s
     → number_in (suc more) i (drop i s)
@@ -46,24 +30,6 @@ module _ (s : List ℕ) (at : ℕ) (within : at < length s) where
 
   pub first_more : 128 ≤ b₁ → under 128 (b₁ % 128) (number_in 3 (at + 1) (drop (at + 1) s)) ≡ number_at s at
   first_more ge = sym (number_at_in s at ∙ simp (in_more 3 at s within, le-ltb b₁ 128 ge))
-
--- ---- the fifth group
-
-module _ (s : List ℕ) (i bits : ℕ) (within : i < length s) where
-  abbrev b₅ : ℕ
-  b₅ = get_or s i 0
-
-  abbrev said : Found
-  said = under (2 ^ 28) bits (number_in 0 i (drop i s))
-
-  pub fifth_idle : b₅ ≡ 0 → Bad ≡ said
-  fifth_idle e = simp (in_fifth i s within, e)
-
-  pub fifth_large : 16 ≤ b₅ → Bad ≡ said
-  fifth_large ge = simp (in_fifth i s within, le-ltb b₅ 16 ge)
-
-  pub fifth_whole : (b₅ ≡ 0 → ⊥) → b₅ < 16 → Number (b₅ % 128 * 2 ^ 28 + bits) (i + 1) ≡ said
-  fifth_whole some lt = simp (in_fifth i s within, lt-ltb b₅ 16 lt, ne_eqb b₅ 0 some, mod-eq_of_lt {n = b₅} {m = 128} (omega arith))
 
 -- ---- the loop
 
@@ -95,15 +61,6 @@ module _ {s : List ℕ} {at first bits shift i : ℕ} (head : Head s at first bi
   abbrev whole : Found
   whole = under 128 first (number_in 3 at (drop at s))
 
-  pub ends : length s ≤ i → Cut ≡ whole
-  ends h = sym (head.same ∙ rw (in_end head.more i s h))
-
-  pub falls_out : 28 ≤ shift → (shift ≡ 28) × (whole ≡ under (2 ^ 28) bits (number_in 0 i (drop i s)))
-  falls_out h =
-      let z : head.more ≡ 0 = omega (arith, head.left) in
-      let e : shift ≡ 28 = omega (arith, head.left) in
-      (e, head.same ∙ rw (e, z))
-
   -- one more group has room in 32 bits
   pub room : (g : ℕ) → g < 128 → shift < 28 → g * 2 ^ shift < 2 ^ 32
   room g h below = lt_of_lt_of_le (shl_lt 7 shift h) (pow_mono {i = 7 + shift} {j = 32} (omega (arith, head.left)))
@@ -120,12 +77,6 @@ module _ {s : List ℕ} {at first bits shift i : ℕ} (head : Head s at first bi
     turn =
         let e : head.more ≡ suc m = omega (arith, head.left) in
         head.same ∙ ap (λ (k : ℕ). under (2 ^ shift) bits (number_in k i (drop i s))) e ∙ rw (in_more m i s within)
-
-    pub idle : b ≡ 0 → Bad ≡ whole
-    idle e = sym (turn ∙ simp e)
-
-    pub stops : (b ≡ 0 → ⊥) → b < 128 → Number (b % 128 * 2 ^ shift + bits) (i + 1) ≡ whole
-    stops some lt = sym (turn ∙ simp (lt-ltb b 128 lt, ne_eqb b 0 some, mod-eq_of_lt lt))
 
     pub goes_on : 128 ≤ b → Head s at first (b % 128 * 2 ^ shift + bits) (shift + 7) (i + 1)
     goes_on ge =

@@ -1,11 +1,13 @@
 // A kit's numbers: groups of seven bits, the lowest first, the top bit set on every group but the last.
 // At most five groups, the value below 2^32, the shortest form only.
+#![tactic(auto)]
+
 ghost use Rattle.std.specs.Prelude.{◌≡◌, ◌+◌, ◌*◌, ◌%◌, ◌^◌, ◌<◌, ◌≤◌, length, drop, ltb};
 ghost use Rattle.number.specs.Number.{number_at, spelling, over, Written};
 ghost use Rattle.number.specs.Groups.{number_in, under};
 
 // What some bytes say at a place.
-#[derive(Drop)]
+#[derive(Clone, Copy)]
 pub enum Found {
     // A number, and the place after it.
     Number { value: u32, next: usize },
@@ -16,7 +18,7 @@ pub enum Found {
 }
 
 // Whether a number was written.
-#[derive(Drop)]
+#[derive(Clone, Copy)]
 pub enum Wrote {
     // It was, and this is the place after it.
     Next(usize),
@@ -116,6 +118,7 @@ fn joined(bits: u32, group: u32, shift: u32) -> u32
 }
 
 // How many bytes a number's spelling has.
+#[tactic(auto, unfolding(crate::specs::Number::spelling))]
 pub fn spelling_length(n: u32) -> usize
     ensures { result ≡ length (spelling n) }
 {

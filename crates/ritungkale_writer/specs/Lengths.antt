@@ -10,9 +10,8 @@ use Rattle.terms.specs.declared.Content.TheVariants.{Prepare, Commit, Update, Hi
 use Rattle.terms.specs.declared.Event.{Event}
 use Rattle.terms.specs.declared.Event.TheVariants.{Submit, Issue, Deliver, Hand, Panic, Idle, Build, File}
 use Rattle.terms.specs.declared.KitAnswer.{KitAnswer}
-use Rattle.terms.specs.declared.KitAnswer.TheVariants as KitAnswer
 use Rattle.number.specs.Number.{Bytes, spelling}
-use Rattle.number.specs.NumberLaws.{spelling_length_lem}
+use Rattle.number.proofs.NumberLaws.{spelling_length_lem}
 use Rattle.grammar.specs.Parser.{kit_answer}
 use Rattle.grammar.specs.ParserLaws.{answer_accepted, accepted_good, accepted_numbers}
 use Rattle.kit.specs.Spelling.{spellings}

@@ -1,5 +1,7 @@
 // The library as C and Rust call it, to write a kit and to read its numbers back, on lent slices, each a pointer and a length to them. It
 // stands apart from `ritungkale_player`: of two callers of the judge the compiler makes two calls for every number, and reading would take thrice as long.
+#![tactic(auto)]
+
 ghost use Rattle.std.specs.Prelude.{◌≡◌, ◌<◌, ◌^◌};
 ghost use Rattle.ritungkale_writer.specs.Packed.{packed, PackedWrite, PackedRead};
 
