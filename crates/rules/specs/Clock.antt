@@ -1,4 +1,4 @@
--- The clock comes first: the gap is added, then lateness is tested once, before the event. Laws: laws.Time, laws.Lateness. Assumes nothing.
+-- The clock comes first: the gap is added, then lateness is tested once, before the event. Laws: Laws.Time, Laws.Lateness. Assumes nothing.
 use Rattle.std.specs.Prelude.{not, ◌&&◌, List, [], ◌∷◌, ℕ, ◌+◌, ◌-◌, leb}
 use Rattle.std.proofs.Math.Option.{Option, none, some}
 use Rattle.terms.specs.Lists.{pick, is_some}

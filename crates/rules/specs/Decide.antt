@@ -4,11 +4,8 @@ use Rattle.terms.specs.Limits.{ag, up, sw}
 use Rattle.terms.specs.Lists.{nth, holds}
 use Rattle.terms.specs.Kit.{Kit}
 use Rattle.terms.specs.declared.Event.{Event}
-use Rattle.terms.specs.declared.Event.TheVariants as Event
 use Rattle.terms.specs.declared.Act.{Act}
-use Rattle.terms.specs.declared.Act.TheVariants as Act
 use Rattle.terms.specs.declared.Decision.{Decision}
-use Rattle.terms.specs.declared.Decision.TheVariants as Decision
 use Rattle.rules.specs.Table.{is_active, switch_leader}
 use Rattle.rules.specs.Room.{Room, issue, note_pair, accept}
 use Rattle.rules.specs.Reading.{content_at}

@@ -13,7 +13,6 @@ use Rattle.terms.specs.declared.Condition.TheVariants.{Closed}
 use Rattle.terms.specs.declared.Answer.TheVariants.{NotIssued, ReceiverFaulty, TooLate, TooEarly, NotNext, WrongRoles, Unexpected}
 use Rattle.terms.specs.declared.Act.TheVariants as Act
 use Rattle.terms.specs.declared.Decision.{Decision}
-use Rattle.terms.specs.declared.Decision.TheVariants as Decision
 use Rattle.rules.specs.Room.{Replica, Room, with_replica, with_condition, with_mark, note, accept, issue}
 use Rattle.rules.specs.Reading.{is_running, is_closed, is_faulty, is_content, first_of, second_of, ag_total, settled_count, held_list}
 use Rattle.rules.specs.Sight.{Sight, is_new}

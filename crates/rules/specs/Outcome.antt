@@ -5,7 +5,6 @@ use Rattle.terms.specs.Lists.{pick}
 use Rattle.terms.specs.declared.Answer.{Answer}
 use Rattle.terms.specs.declared.Answer.TheVariants.{Taken}
 use Rattle.terms.specs.declared.Decision.{Decision}
-use Rattle.terms.specs.declared.Decision.TheVariants as Decision
 use Rattle.rules.specs.Room.{Room}
 
 pub record Outcome : Type 0 where

@@ -1,4 +1,4 @@
--- Playing: one event after the clock, the room after the first n events of a kit, and the answer to each. Laws: the folder laws. Assumes nothing.
+-- Playing: one event after the clock, the room after the first n events of a kit, and the answer to each. Laws: the folder proofs/Laws. Assumes nothing.
 use Rattle.std.proofs.Math.Option.{Option, none, some}
 use Rattle.std.specs.Prelude.{List, [], ◌∷◌, ℕ, take}
 use Rattle.terms.specs.Lists.{nth}

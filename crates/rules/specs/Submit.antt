@@ -9,7 +9,6 @@ use Rattle.terms.specs.declared.Content.TheVariants.{Prepare, Commit, Update, Hi
 use Rattle.terms.specs.declared.Condition.{Condition}
 use Rattle.terms.specs.declared.Answer.TheVariants.{AlreadySubmitted, SubmissionsFull, NotFaulty, Unexpected, CounterFull, FilesFull}
 use Rattle.terms.specs.declared.Decision.{Decision}
-use Rattle.terms.specs.declared.Decision.TheVariants as Decision
 use Rattle.rules.specs.Room.{Room, remember, with_replica, with_history, note, issue}
 use Rattle.rules.specs.Reading.{is_running, is_faulty}
 use Rattle.rules.specs.Outcome.{refuse_if}

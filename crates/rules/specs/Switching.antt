@@ -13,7 +13,6 @@ use Rattle.terms.specs.declared.Condition.TheVariants.{Halted}
 use Rattle.terms.specs.declared.Answer.TheVariants.{NotIssued, ReceiverFaulty, TooLate, TooEarly, WrongRoles, NotValid, CannotBuild}
 use Rattle.terms.specs.declared.Act.TheVariants as Act
 use Rattle.terms.specs.declared.Decision.{Decision}
-use Rattle.terms.specs.declared.Decision.TheVariants as Decision
 use Rattle.rules.specs.Table.{actives, switch_leader}
 use Rattle.rules.specs.Room.{Filing, Room, with_replica, with_condition, with_history, hold, issue}
 use Rattle.rules.specs.Reading.{is_running, is_closed, is_faulty, entry_at, content_at, is_content, first_of, ag_total, settled_count}
