@@ -1,5 +1,7 @@
 // Records changed where they stand. A thin function is lent one replica's record by `&mut`, calls the by-value step of crate `replica` and stores
 // what it gives; over it stands a function of a record that is given, which lends it.
+#![tactic(auto)]
+
 ghost use Rattle.std.specs.Prelude.{◌≡◌};
 ghost use Rattle.replica.specs.Record.{note_on, hold_on, close_on};
 

@@ -1,13 +1,8 @@
 -- Laws of the ledger: where the counters of a room are laid out, looking up, counting and issuing are the room's. Assumes nothing.
-use Rattle.std.specs.Prelude.{◌≡◌, refl, false, get_or, set, replicate, leb, ltb, eqb}
-use Rattle.std.proofs.Common.{ap, ◌∙◌, le_of_suc-le-suc}
+use Rattle.std.proofs.Common.{◌≡◌, refl, ap, ◌∙◌, false, List, [], ◌∷◌, ◌++◌, ℕ, zero, suc, ◌+◌, ◌*◌, ◌-◌, ◌≤◌, ◌<◌, length, get_or, set, replicate, leb, ltb, eqb, le_of_suc-le-suc, arith, le-ltb, ltb-true, ltb-false, eqb-true, eq-eqb, ne_eqb}
+use Rattle.std.proofs.lemmas.Bool.{lt-leb, eqb-false}
 use Rattle.std.proofs.Math.Option.{Option, none, some}
-use mathlib.Core.List.{List, [], ◌∷◌, ◌++◌}
-use Prim.Native.Nat.{ℕ, zero, suc, ◌+◌, ◌*◌, ◌-◌, ◌≤◌, ◌<◌}
 use Rattle.std.proofs.Math.Nat.{suc_inj}
-use native.Mathlib.Omega.{arith}
-use Rattle.std.proofs.Math.ListN.{length}
-use borrow.Author.Tests.{le-ltb, lt-leb, ltb-true, ltb-false, eqb-true, eqb-false, eq-eqb, ne_eqb}
 use Rattle.terms.specs.Limits.{replicas_max, names, counters, places_max}
 use Rattle.terms.specs.Lists.{pick, nth}
 use Rattle.terms.specs.ListLaws.{split, nth_in, length-snoc}

@@ -8,7 +8,6 @@ use Rattle.terms.specs.Numbers.{content_numbers}
 use Rattle.terms.specs.Tabulate.{tab, grid}
 use Rattle.terms.specs.declared.Content.{Content}
 use Rattle.terms.specs.declared.ContentChoice.{ContentChoice}
-use Rattle.terms.specs.declared.ContentChoice.TheVariants as ContentChoice
 use Rattle.ledger.specs.Ledger.{Places, Ledger, Issued}
 
 -- a content or none, as it is looked up

@@ -1,6 +1,8 @@
 // What the counters have issued, and what is read of it. Each of a room's counters, three for each of at most seven replicas, has 96 places, all
 // empty at the start: a place is a content's kind, a and b, and 0 0 0 is empty. `issued` says how many places of each are taken. Nothing above
 // this crate knows the layout; others look contents up, compare them, and issue.
+#![tactic(auto)]
+
 ghost use Rattle.std.specs.Prelude.{◌≡◌, suc, eqb};
 ghost use Rattle.std.proofs.Math.Option.{some};
 ghost use Rattle.rules.specs.Reading.{same_content, is_content, first_of, second_of};
@@ -36,6 +38,7 @@ pub fn fresh_issued() -> Issued
 // ---- looking up and issuing
 
 // The row of a replica's counter of this name, or their number where there is none.
+#[tactic(auto, unfolding(crate::specs::Ledger::place_index))]
 fn place_index(replica: usize, name: usize) -> usize
     ensures { result ≡ place_index replica name }
 {
@@ -49,6 +52,7 @@ fn place_index(replica: usize, name: usize) -> usize
 }
 
 // How many values a counter has issued.
+#[tactic(auto, unfolding(crate::specs::Ledger::total_of))]
 pub fn total(issued: &Issued, replica: usize, name: usize) -> usize
     ensures { result ≡ total_of issued.now replica name }
 {
@@ -60,6 +64,7 @@ pub fn total(issued: &Issued, replica: usize, name: usize) -> usize
 }
 
 // The content that a counter's value is bound to, or none where it was not issued: value 0 never is.
+#[tactic(auto, unfolding(crate::specs::Ledger::look_up))]
 pub fn look_up(
     ledger: &Ledger,
     issued: &Issued,
@@ -88,6 +93,7 @@ pub fn look_up(
 }
 
 // Binds the counter's next value to a content; a counter with no empty place stays as it is.
+#[tactic(auto, unfolding(crate::specs::Ledger::issue_on))]
 pub fn issue(
     ledger: &mut Ledger,
     issued: &mut Issued,
@@ -139,6 +145,7 @@ pub fn second_of(content: Content) -> u32
 }
 
 // Whether two contents are the same: they are if their numbers are.
+#[tactic(auto, unfolding(rules::specs::Reading::same_content))]
 pub fn is_same(one: Content, other: Content) -> bool
     ensures { result ≡ same_content one other }
 {

@@ -1,17 +1,8 @@
--- The invariants of two loops, and one turn of each. Assumes nothing.
-use mathlib.Core.Path.{◌≡◌, refl, sym, ap, ◌∙◌}
-use mathlib.Core.Bool.{Bool, true, false}
-use mathlib.Core.Logic.{◌≢◌}
-use mathlib.Core.List.{List, [], ◌∷◌}
-use Prim.Native.Nat.{ℕ, zero, suc, ◌+◌, ◌-◌, ◌≤◌, ◌<◌, min}
-use native.Mathlib.Omega.{arith}
-use native.Mathlib.Numerals.{add-one}
-use lib.ListN.{length, take, drop, get_or, length-take, drop_of_length-le}
-use lib.Seq.{drop-cons, get_or-take}
-use borrow.Author.Tests.{ne_eqb}
+-- The invariants of two loops, and what is cited of a turn of each. Assumes nothing.
+use Rattle.std.proofs.Common.{◌≡◌, refl, ◌∙◌, Bool, true, List, [], ◌∷◌, ℕ, zero, suc, ◌+◌, ◌≤◌, ◌<◌, min, arith, add-one, length, drop, get_or, drop-cons}
 use Rattle.terms.specs.Limits.{replicas_max}
-use Rattle.terms.specs.Lists.{pick, holds, least_over, count_below}
-use Rattle.terms.specs.ListLaws.{split, holds_at, nth-get_or}
+use Rattle.terms.specs.Lists.{least_over, count_below}
+use Rattle.terms.specs.ListLaws.{split}
 use Rattle.terms.specs.Kit.{marks_active}
 use Rattle.rules.specs.Table.{actives_from}
 
@@ -25,15 +16,8 @@ pub record Counting (t : ℕ → Bool) (n y : ℕ) : Type 0 where
   pub within : y ≤ replicas_max
   pub so_far : n ≡ count_below y t
 
-module _ {t : ℕ → Bool} {n y : ℕ} (s : Counting t n y) where
-  pub small : y < replicas_max → n < replicas_max
-  small h = rw s.so_far (omega (arith, count_below-le y t))
-
-  pub next_counted : y < replicas_max → Counting t (pick (t y) (n + 1) n) (y + 1)
-  next_counted h = record { within = omega arith; so_far = rw (add-one y, ← s.so_far, add-one n) }
-
-  pub all_counted : replicas_max ≤ y → n ≡ count_below replicas_max t
-  all_counted h = let e : y ≡ replicas_max = omega (arith, s.within) in s.so_far ∙ ap (λ (k : ℕ). count_below k t) e
+pub small : {t : ℕ → Bool} {n y : ℕ} → Counting t n y → y < replicas_max → n < replicas_max
+small {t} {n} {y} s h = rw s.so_far (omega (arith, count_below-le y t))
 
 -- ---- the least over the active replicas: that of replica y and those after it, and of c
 
@@ -49,9 +33,3 @@ module _ {table : List ℕ} {g : ℕ → ℕ} {first c y : ℕ} (s : Lessening t
   pub next_active : y < length table → marks_active (get_or table y 0) ≡ true → Lessening table g first (min (g y) c) (y + 1)
   next_active below e =
       record { rest = s.rest ∙ rw (drop-cons table y 0 below, e, add-one y) (least_over-min (actives_from (drop (suc y) table) (suc y)) g (g y) c) }
-
-  pub next_passive : y < length table → marks_active (get_or table y 0) ≡ false → Lessening table g first c (y + 1)
-  next_passive below e = record { rest = s.rest ∙ rw (drop-cons table y 0 below, e, add-one y) }
-
-  pub all_seen : length table ≤ y → c ≡ least_over (actives_from table 0) g first
-  all_seen h = sym (s.rest ∙ rw (drop_of_length-le table h))

@@ -1,10 +1,6 @@
 -- Laws of the record: where a replica of the rules is laid out, each step and each reading is the rules'. Assumes nothing.
-use Rattle.std.specs.Prelude.{◌≡◌, Bool, false, List, [], ◌∷◌, ◌++◌, ℕ, zero, suc, ◌+◌, ◌-◌, ◌≤◌, ◌<◌, replicate, eqb}
-use Rattle.std.proofs.Math.Path.{refl}
-use Rattle.std.proofs.Common.{◌∙◌, arith}
-use Rattle.std.proofs.Math.Bool.{true}
-use Rattle.std.proofs.Math.ListN.{length}
-use borrow.Author.Tests.{le-ltb, le-leb, lt-leb, ne_eqb, eqb-true, eqb-false}
+use Rattle.std.proofs.Common.{◌≡◌, refl, ◌∙◌, Bool, true, false, List, [], ◌∷◌, ◌++◌, ℕ, zero, suc, ◌+◌, ◌-◌, ◌≤◌, ◌<◌, length, replicate, eqb, arith, le-ltb, le-leb, ne_eqb, eqb-true}
+use Rattle.std.proofs.lemmas.Bool.{lt-leb, eqb-false}
 use Rattle.terms.specs.Limits.{replicas_max, up, sw, names, requests_max}
 use Rattle.terms.specs.Lists.{pick, least_over, count_below}
 use Rattle.terms.specs.ListLaws.{split, no_way, length-snoc}
@@ -17,7 +13,6 @@ use Rattle.rules.specs.Table.{is_active, actives, actives_from}
 use Rattle.rules.specs.Room as Rules
 use Rattle.rules.specs.Reading.{is_running, settled_count}
 use Rattle.rules.specs.Deliver.{mark_of_pair, switches}
-use Rattle.replica.specs.declared.Replica.{Replica}
 use Rattle.replica.specs.Record.{fresh_record, note_on, note_pair_on, accept_on, mark_on, halt_on, halted, hold_on, close_on, accepted_in, active_in, least_seen, settled_in, switched_in, switches_in, mark_in}
 use Rattle.replica.specs.RecordLayout.{lay_replica}
 

@@ -1,5 +1,7 @@
 // A replica's record: a fixed-size value, with the steps that change it. Each step gives the record anew; a step that has no room leaves
 // it as it is.
+#![tactic(auto)]
+
 ghost use Rattle.std.specs.Prelude.{◌≡◌, ◌+◌, ◌<◌};
 ghost use Rattle.terms.specs.Lists.{pick};
 ghost use Rattle.replica.specs.Record.{fresh_record, note_on, note_pair_on, accept_on, accepted_in, mark_on, halt_on, hold_on, close_on, active_in, lesser_of, least_seen, settled_in, switched_in, switches_in, mark_in};
@@ -10,7 +12,7 @@ use terms::{
 
 // What a replica keeps. `noted` has `count` requests, `marks` the marks of `pairs` pairs, `accepted` the last accepted value of each
 // sender's three counters; `held` is the history's number where `holding`. Whatever is not in use is 0.
-#[derive(Drop)]
+#[derive(Clone, Copy)]
 pub struct Replica {
     pub condition: Condition,
     pub noted: Requests,
@@ -35,6 +37,7 @@ impl Replica {
     pub const NAMES_MAX: usize = NAMES;
 
     // A replica before the first event.
+    #[tactic(auto, unfolding(crate::specs::Record::fresh_record))]
     pub fn fresh(faulty: bool) -> Replica
         ensures { result ≡ fresh_record faulty }
     {
@@ -53,6 +56,7 @@ impl Replica {
     }
 
     // Notes a request.
+    #[tactic(auto, unfolding(crate::specs::Record::note_on))]
     pub fn note(mut self, request: u32) -> Replica
         ensures { result ≡ note_on self request }
     {
@@ -66,6 +70,7 @@ impl Replica {
     }
 
     // Notes a pair: a request with the mark that came with it.
+    #[tactic(auto, unfolding(crate::specs::Record::note_pair_on))]
     pub fn note_pair(mut self, request: u32, mark: u32) -> Replica
         ensures { result ≡ note_pair_on self request mark }
     {
@@ -85,6 +90,7 @@ impl Replica {
     }
 
     // The value is the last one accepted of that sender's counter.
+    #[tactic(auto, unfolding(crate::specs::Record::accept_on))]
     pub fn accept(mut self, sender: usize, name: usize, value: u32) -> Replica
         ensures { result ≡ accept_on self sender name value }
     {
@@ -99,6 +105,7 @@ impl Replica {
     }
 
     // The mark after an execution.
+    #[tactic(auto, unfolding(crate::specs::Record::mark_on))]
     pub fn with_mark(mut self, mark: u32) -> Replica
         ensures { result ≡ mark_on self mark }
     {
@@ -107,6 +114,7 @@ impl Replica {
     }
 
     // A running replica halts; any other stays as it is.
+    #[tactic(auto, unfolding(crate::specs::Record::halt_on))]
     pub fn halt(self) -> Replica
         ensures { result ≡ halt_on self }
     {
@@ -135,6 +143,7 @@ impl Replica {
     }
 
     // Holds a history.
+    #[tactic(auto, unfolding(crate::specs::Record::hold_on))]
     pub fn hold(mut self, history: u32) -> Replica
         ensures { result ≡ hold_on self history }
     {
@@ -144,6 +153,7 @@ impl Replica {
     }
 
     // Closes, with the mark of the list that it has settled.
+    #[tactic(auto, unfolding(crate::specs::Record::close_on, crate::specs::Record::mark_on))]
     pub fn close(self, mark: u32) -> Replica
         ensures { result ≡ close_on self mark }
     {
@@ -165,6 +175,7 @@ impl Replica {
 }
 
 // Faulty replicas are marked in the table; the others run.
+#[tactic(auto, unfolding(crate::specs::Record::fresh_record))]
 fn first_condition(faulty: bool) -> Condition
     ensures { result ≡ (fresh_record faulty).condition }
 {
@@ -175,6 +186,7 @@ fn first_condition(faulty: bool) -> Condition
 }
 
 // Whether the table marks replica x as active.
+#[tactic(auto, unfolding(crate::specs::Record::active_in))]
 pub fn is_active_at(table: &Table, x: usize) -> bool
     ensures { result ≡ active_in table.now x }
 {
@@ -186,6 +198,7 @@ pub fn is_active_at(table: &Table, x: usize) -> bool
 }
 
 // The last accepted value of a sender's counter; 0 of one that is not there.
+#[tactic(auto, unfolding(crate::specs::Record::accepted_in))]
 pub fn accepted_of(accepted: &Accepted, sender: usize, name: usize) -> u32
     ensures { result ≡ accepted_in accepted.now sender name }
 {
@@ -199,6 +212,7 @@ pub fn accepted_of(accepted: &Accepted, sender: usize, name: usize) -> u32
 }
 
 // The lesser of the count so far and what is seen of one more active replica y.
+#[tactic(auto, unfolding(crate::specs::Record::lesser_of))]
 fn lesser(active: bool, accepted: &Accepted, me: usize, own: usize, y: usize, c: usize) -> usize
     ensures { result ≡ lesser_of active accepted.now me own y c }
 {
@@ -223,6 +237,7 @@ fn lesser(active: bool, accepted: &Accepted, me: usize, own: usize, y: usize, c:
 }
 
 // The least, over all active replicas and of `first`, of what replica `me` has seen of them; `own` is its own ag total.
+#[tactic(auto, unfolding(crate::specs::Record::least_seen))]
 fn least_seen(
     table: &Table,
     accepted: &Accepted,
@@ -248,6 +263,7 @@ fn least_seen(
 }
 
 // The settled count of replica `me` with these accepted values and `own` values on ag.
+#[tactic(auto, unfolding(crate::specs::Record::settled_in))]
 pub fn settled_count(
     accepted: &Accepted,
     table: &Table,
@@ -276,6 +292,7 @@ fn counted(is: bool, n: u32) -> u32
 }
 
 // Whether a SWITCH of replica y, one of the first `size`, was accepted.
+#[tactic(auto, unfolding(crate::specs::Record::switched_in))]
 fn switched(accepted: &Accepted, size: usize, y: usize) -> bool
     ensures { result ≡ switched_in accepted.now size y }
 {
@@ -286,6 +303,7 @@ fn switched(accepted: &Accepted, size: usize, y: usize) -> bool
 }
 
 // Of how many of the first `size` replicas a SWITCH was accepted.
+#[tactic(auto, unfolding(crate::specs::Record::switches_in))]
 pub fn switches(accepted: &Accepted, size: usize) -> u32
     ensures { result ≡ switches_in accepted.now size }
 {
@@ -299,6 +317,7 @@ pub fn switches(accepted: &Accepted, size: usize) -> u32
 }
 
 // The mark of the last of c pairs, 0 before the first.
+#[tactic(auto, unfolding(crate::specs::Record::mark_in))]
 pub fn mark_of_pair(marks: &Marks, c: usize) -> u32
     ensures { result ≡ mark_in marks.now c }
 {

@@ -7,7 +7,7 @@ use Rattle.terms.specs.Kit.{Kit, GoodKit}
 use Rattle.rules.specs.Table.{switch_leader}
 use Rattle.rules.specs.Room.{Room, Replica, Filing}
 use Rattle.rules.specs.Reading.{is_faulty}
-use Rattle.rules.specs.Agreement.Invariant.{FilingBounds}
+use Rattle.rules.proofs.Agreement.Invariant.{FilingBounds}
 
 -- a replica's record: it notes a request only where that is submitted and not noted, and a pair's mark only with its request
 pub record ReplicaBounds (submitted : List ℕ) (p : Replica) : Type 0 where

@@ -6,7 +6,7 @@ use Rattle.terms.specs.Lists.{holds, Once}
 use Rattle.terms.specs.ListLaws.{once-cons}
 use Rattle.terms.specs.Kit.{Kit}
 use Rattle.rules.specs.Room.{Room, Replica}
-use Rattle.rules.specs.Laws.Missing.{Within, noted_missing, once-length}
+use Rattle.rules.proofs.Laws.Missing.{Within, noted_missing, once-length}
 use Rattle.rules.specs.Switching.{missing}
 use Rattle.room.specs.Bounds.{ReplicaBounds, Bounds}
 

@@ -4,7 +4,6 @@ use Rattle.terms.specs.Limits.{requests_max}
 use Rattle.terms.specs.Lists.{pick}
 use Rattle.room.specs.declared.Desk.{Desk}
 use Rattle.terms.specs.declared.Decision.{Decision}
-use Rattle.terms.specs.declared.Decision.TheVariants as Decision
 
 unfoldable pub fresh_desk : Desk
 fresh_desk = record { clock = 0; late = false; due = 0; known = 0; submitted = 0; histories = 0; filed = 0 }

@@ -2,14 +2,14 @@
 -- are below 7, and so are an event's replicas; its names are below 3. Assumes nothing.
 use Rattle.std.specs.Prelude.{◌≡◌, Bool, true, false, List, [], ◌∷◌, ℕ, zero, suc, ◌≤◌, ◌<◌, length, get_or}
 use Rattle.std.proofs.Math.Path.{refl}
-use native.Mathlib.Omega.{arith}
+use Rattle.std.proofs.Common.{arith}
 use Rattle.terms.specs.Limits.{replicas, replicas_max, names, requests_max}
 use Rattle.terms.specs.ListLaws.{no_way}
 use Rattle.terms.specs.Kit.{Kit, GoodKit, GoodEvent, marks_active}
 use Rattle.terms.specs.declared.Event.{Event}
 use Rattle.terms.specs.declared.Event.TheVariants.{Submit, Issue, Deliver, Hand, Panic, Idle, Build, File}
 use Rattle.rules.specs.Table.{is_active, switch_leader}
-use Rattle.rules.specs.Laws.TableLaws.{roles}
+use Rattle.rules.proofs.Laws.TableLaws.{roles}
 use Rattle.rules.specs.Decide.{concerned}
 
 -- what a table marks, where 0 marks nothing, stands in it

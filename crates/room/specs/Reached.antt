@@ -10,7 +10,7 @@ use Rattle.rules.specs.Table.{is_marked_faulty}
 use Rattle.rules.specs.Room.{Room, fresh_replica}
 use Rattle.rules.specs.Clock.{tick}
 use Rattle.rules.specs.Play.{after}
-use Rattle.rules.specs.Agreement.Sizes.{Reached, reached_after, reached_ticked, bounds_of}
+use Rattle.rules.proofs.Agreement.Sizes.{Reached, reached_after, reached_ticked, bounds_of}
 use Rattle.room.specs.Bounds.{ReplicaBounds, Bounds}
 
 module _ {kit : Kit} {r : Room} (a : Reached kit r) where

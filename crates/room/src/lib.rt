@@ -1,4 +1,6 @@
 // What the player keeps of the room beside the replicas and the counters.
+#![tactic(auto)]
+
 ghost use Rattle.std.specs.Prelude.{◌≡◌};
 ghost use Rattle.room.specs.Desk.{fresh_desk, counted_on};
 
@@ -8,7 +10,7 @@ pub mod settled;
 
 // The clock, the late tick where it was late, how many of the first submissions are known to be answered, and how many requests were
 // submitted, histories filed, and histories filed by events 8.
-#[derive(Drop)]
+#[derive(Clone, Copy)]
 pub struct Desk {
     pub clock: u64,
     pub late: bool,
@@ -20,7 +22,7 @@ pub struct Desk {
 }
 
 // What a kit's settings say of the replicas, and the patience.
-#[derive(Drop)]
+#[derive(Clone, Copy)]
 pub struct Roles {
     pub f: u32,
     pub size: usize,
@@ -30,7 +32,7 @@ pub struct Roles {
 }
 
 // The small parts of a replica's record; its arrays stand beside them.
-#[derive(Drop)]
+#[derive(Clone, Copy)]
 pub struct Standing {
     pub condition: Condition,
     pub count: usize,
@@ -46,6 +48,7 @@ impl Desk {
     pub const HISTORIES_MAX: usize = HISTORIES;
 
     // Before the first event.
+    #[tactic(auto, unfolding(crate::specs::Desk::fresh_desk))]
     pub fn fresh() -> Desk
         ensures { result ≡ fresh_desk }
     {
@@ -61,6 +64,7 @@ impl Desk {
     }
 
     // The counts after what was decided is done.
+    #[tactic(auto, unfolding(crate::specs::Desk::counted_on))]
     pub fn counted(mut self, decision: Decision) -> Desk
         ensures { result ≡ counted_on self decision }
     {

@@ -7,7 +7,7 @@ use replica::Replica;
 use terms::{AG, Condition, HISTORIES, Heads, Lists, REQUESTS, Requests, Table};
 
 // The first `count` of these requests, or all where there are fewer.
-#[derive(Drop)]
+#[derive(Clone, Copy)]
 pub struct Settled {
     pub requests: Requests,
     pub count: usize,
@@ -24,6 +24,7 @@ fn nothing() -> Settled
 }
 
 // Of a replica that has not closed: the first of its noted requests.
+#[tactic(auto, unfolding(crate::specs::Settled::noted_settled))]
 fn noted(x: usize, p: Replica, leader: usize, table: &Table, issued: &Issued) -> Settled
     ensures { result ≡ noted_settled leader table.now issued.now x p }
 {
@@ -38,6 +39,7 @@ fn noted(x: usize, p: Replica, leader: usize, table: &Table, issued: &Issued) ->
 }
 
 // Of a closed one: the whole list of the history that it holds.
+#[tactic(auto, unfolding(crate::specs::Settled::held_settled))]
 fn held(p: Replica, heads: &Heads, lists: &Lists) -> Settled
     ensures { result ≡ held_settled heads.now lists.now p }
 {
@@ -56,6 +58,7 @@ fn held(p: Replica, heads: &Heads, lists: &Lists) -> Settled
 }
 
 // What replica x with this record has settled. A faulty one has settled nothing.
+#[tactic(auto, unfolding(crate::specs::Settled::settled_of))]
 pub fn settled_of(
     x: usize,
     p: Replica,
@@ -77,6 +80,7 @@ pub fn settled_of(
 }
 
 // The record that is shown of a replica: of a faulty one a fresh record, with mark 0 and nothing held, noted or accepted.
+#[tactic(auto, unfolding(crate::specs::Settled::shown_record))]
 pub fn shown(p: Replica) -> Replica
     ensures { result ≡ shown_record p }
 {

@@ -1,3 +1,0 @@
-pub mod By
-pub mod Lent
-pub mod Thin
