@@ -1,13 +1,5 @@
 -- The invariants of the two loops, each by what is still to come, and one turn of each. Assumes nothing.
-use mathlib.Core.Path.{◌≡◌, refl, ◌∙◌}
-use mathlib.Core.Bool.{true}
-use mathlib.Core.List.{List, [], ◌∷◌}
-use Prim.Native.Nat.{ℕ, ◌+◌, ◌≤◌, ◌<◌}
-use native.Mathlib.Omega.{arith}
-use native.Mathlib.Numerals.{add-one}
-use lib.ListN.{length, take, drop, get_or, length-take, drop_of_length-le}
-use lib.Seq.{drop-cons, get_or-take}
-use lib.Dec.{leb}
+use Rattle.std.proofs.Common.{◌≡◌, refl, ◌∙◌, true, List, [], ◌∷◌, ℕ, ◌+◌, ◌≤◌, ◌<◌, arith, add-one, length, take, drop, get_or, length-take, drop_of_length-le, drop-cons, get_or-take, leb}
 use Rattle.terms.specs.Limits.{requests_max}
 use Rattle.terms.specs.Lists.{holds}
 use Rattle.terms.specs.ListLaws.{split}

@@ -6,7 +6,6 @@ use Rattle.terms.specs.Limits.{ag, up, sw, requests_max, histories_max}
 use Rattle.terms.specs.Lists.{pick}
 use Rattle.terms.specs.Mark.{next_mark, mark_of}
 use Rattle.terms.specs.declared.Content.{Content}
-use Rattle.terms.specs.declared.Content.TheVariants as Content
 use Rattle.rules.specs.Reading.{is_running}
 use Rattle.ledger.specs.Ledger.{Book, total_of, issue_on}
 use Rattle.replica.specs.declared.Replica.{Replica}
@@ -14,9 +13,7 @@ use Rattle.replica.specs.Record.{note_on, note_pair_on, accept_on, mark_on, halt
 use Rattle.room.specs.declared.Desk.{Desk}
 use Rattle.room.specs.declared.Roles.{Roles}
 use Rattle.terms.specs.declared.Act.{Act}
-use Rattle.terms.specs.declared.Act.TheVariants as Act
 use Rattle.terms.specs.declared.Decision.{Decision}
-use Rattle.terms.specs.declared.Decision.TheVariants as Decision
 use Rattle.terms.specs.declared.Decision.TheVariants.{Refuse, Submit, Issue, Idle, Build, File}
 
 -- the record and the counters after it

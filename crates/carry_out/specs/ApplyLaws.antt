@@ -1,12 +1,11 @@
 -- The steps of what is carried out on laid-out records, counters and lists are the rules' steps laid out. Assumes nothing.
-use Rattle.std.specs.Prelude.{◌≡◌, List, [], ◌∷◌, ◌++◌, length, get_or, take, leb, ltb}
+use Rattle.std.specs.Prelude.{◌≡◌, List, [], ◌∷◌, ◌++◌, length, get_or, take, leb, ltb, ℕ, zero, suc, ◌+◌, ◌≤◌, ◌<◌}
+use Rattle.std.proofs.Common.{◌∙◌, append-nil, arith, add-one, le_of_suc-le-suc, length-append, leb-true, leb-false, lt-ltb, le-ltb, ne_eqb}
 use Rattle.std.proofs.Math.Path.{refl}
-use Rattle.std.proofs.Common.{◌∙◌, append-nil, arith, add-one, le_of_suc-le-suc, length-append}
 use Rattle.std.proofs.Math.Option.{Option, none, some}
-use Prim.Native.Nat.{ℕ, zero, suc, ◌+◌, ◌-◌, ◌≤◌, ◌<◌}
 use Rattle.std.proofs.Math.ListN.{get_or-eq_default}
 use Rattle.std.proofs.Math.Seq.{append_snoc}
-use borrow.Author.Tests.{leb-true, leb-false, lt-ltb, le-ltb, lt-leb, ne_eqb}
+use borrow.Author.Tests.{lt-leb}
 use Rattle.terms.specs.Limits.{replicas_max, up, sw, places_max, requests_max, histories_max}
 use Rattle.terms.specs.Lists.{pick, nth, is_some}
 use Rattle.terms.specs.ListLaws.{split, length-snoc}
@@ -14,7 +13,6 @@ use Rattle.terms.specs.Padding.{pad, take_pad, get_or_pad, set_pad}
 use Rattle.terms.specs.Mark.{next_mark, mark_of}
 use Rattle.terms.specs.Kit.{Kit}
 use Rattle.terms.specs.declared.Content.{Content}
-use Rattle.terms.specs.declared.Content.TheVariants as Content
 use Rattle.terms.specs.declared.Condition.TheVariants.{Closed}
 use Rattle.rules.specs.Room.{Room, Filing, put2}
 use Rattle.rules.specs.Room as Rules

@@ -3,11 +3,11 @@
 -- one module over the kit and the room, each decision: those on ag, those on up, those on sw, and what is entered (submissions, filed histories).
 -- The one law over all events: DoneLaws. Assumes nothing.
 use Rattle.std.specs.Prelude.{◌≡◌, refl, true, false, List, [], ◌∷◌, ◌++◌, ℕ, suc, ◌≤◌, ◌<◌, get_or, leb, ltb}
+use Rattle.std.proofs.Common.{◌∙◌, arith, lt-ltb}
 use Rattle.std.proofs.Math.Path.{ap}
-use Rattle.std.proofs.Common.{◌∙◌, arith}
 use Rattle.std.proofs.Math.Numerals.{add-one}
 use Rattle.std.proofs.Math.ListN.{length, set}
-use borrow.Author.Tests.{lt-ltb, lt-leb}
+use borrow.Author.Tests.{lt-leb}
 use Rattle.terms.specs.Limits.{replicas_max, ag, up, sw, names, places_max, requests_max, histories_max}
 use Rattle.terms.specs.Lists.{pick, holds}
 use Rattle.terms.specs.ListLaws.{split, length-snoc, eqb_same}
@@ -15,13 +15,12 @@ use Rattle.terms.specs.Padding.{pad, set_pad}
 use Rattle.terms.specs.Mark.{next_mark, mark_of}
 use Rattle.terms.specs.Kit.{Kit}
 use Rattle.terms.specs.declared.Content.{Content}
-use Rattle.terms.specs.declared.Content.TheVariants as Content
 use Rattle.terms.specs.declared.Condition.TheVariants.{Halted, Closed}
 use Rattle.terms.specs.declared.Answer.{Answer}
 use Rattle.rules.specs.Room.{Room, Filing, put1, with_replica, with_history, issue, remember, with_condition, with_mark, note, note_pair, accept, hold}
 use Rattle.rules.specs.Room as Rules
 use Rattle.rules.specs.Reading.{is_running, is_faulty, settled_count, held_list, ag_total}
-use Rattle.rules.specs.Laws.ReadingLaws.{running_correct}
+use Rattle.rules.proofs.Laws.ReadingLaws.{running_correct}
 use Rattle.rules.specs.Submit.{after_submit, after_file}
 use Rattle.rules.specs.Deliver.{settle, after_prepare, after_commit, after_update, after_switch, switches, mark_of_pair}
 use Rattle.rules.specs.Switching.{missing, after_panic, built_list, after_build, after_hand}
@@ -30,7 +29,6 @@ use Rattle.replica.specs.RecordLayout.{lay_replica}
 use Rattle.replica.specs.RecordLaws.{note_laid, note_pair_laid, accept_laid, halt_laid, hold_laid}
 use Rattle.terms.specs.declared.Act.TheVariants as Act
 use Rattle.terms.specs.declared.Decision.{Decision}
-use Rattle.terms.specs.declared.Decision.TheVariants as Decision
 use Rattle.terms.specs.declared.Decision.TheVariants.{Refuse, Submit, Issue, Idle, Build, File}
 use Rattle.room.specs.Desk.{counted_on}
 use Rattle.rules.specs.Decide.{acted, carried_out}

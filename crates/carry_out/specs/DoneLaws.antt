@@ -8,12 +8,10 @@ use Rattle.terms.specs.Padding.{pad}
 use Rattle.terms.specs.Kit.{Kit, GoodEvent}
 use Rattle.terms.specs.declared.Event.{Event}
 use Rattle.terms.specs.declared.Act.{Act}
-use Rattle.terms.specs.declared.Act.TheVariants as Act
 use Rattle.terms.specs.declared.Decision.{Decision}
-use Rattle.terms.specs.declared.Decision.TheVariants as Decision
 use Rattle.rules.specs.Room.{Room}
 use Rattle.rules.specs.Decide.{concerned, decide, carried_out}
-use Rattle.rules.specs.Laws.Tested.{Delivered, ToAct, Tested, tested}
+use Rattle.rules.proofs.Laws.Tested.{Delivered, ToAct, Tested, tested}
 use Rattle.replica.specs.RecordLayout.{lay_replica}
 use Rattle.room.specs.Layout.{lay_room, lay_roles, lay_table}
 use Rattle.room.specs.Bounds.{Bounds}

@@ -6,7 +6,6 @@ use Rattle.terms.specs.Lists.{pick, holds}
 use Rattle.rules.specs.Switching.{missing}
 use Rattle.room.specs.declared.Desk.{Desk}
 use Rattle.terms.specs.declared.Decision.{Decision}
-use Rattle.terms.specs.declared.Decision.TheVariants as Decision
 use Rattle.terms.specs.declared.Decision.TheVariants.{Refuse, Submit, Issue, Idle, Build, File}
 
 -- ---- submissions

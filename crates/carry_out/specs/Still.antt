@@ -7,7 +7,6 @@ use Rattle.replica.specs.declared.Replica.{Replica}
 use Rattle.room.specs.declared.Desk.{Desk}
 use Rattle.room.specs.declared.Roles.{Roles}
 use Rattle.terms.specs.declared.Decision.{Decision}
-use Rattle.terms.specs.declared.Decision.TheVariants as Decision
 use Rattle.terms.specs.declared.Decision.TheVariants.{Refuse, Submit, Issue, Idle, Build, File}
 use Rattle.carry_out.specs.Apply.{applied, apply_on, moves_on}
 

@@ -1,4 +1,7 @@
 // What a decided event does: what is entered in the room's lists, and what the replica concerned does with its record and its counters.
+
+#![tactic(auto)]
+
 ghost use Rattle.std.specs.Prelude.{◌≡◌, take};
 ghost use Rattle.terms.specs.Mark.{mark_of};
 ghost use Rattle.rules.specs.Switching.{missing};
@@ -17,6 +20,7 @@ use terms::{
 // ---- what is entered
 
 // The request and its tick are remembered as the n-th submission.
+#[tactic(auto, unfolding(crate::specs::Enter::store_request))]
 fn store_request(n: usize, request: u32, clock: u64, requests: &mut Requests, ticks: &mut Ticks)
     ensures { submissions requests.new ticks.new ≡ store_request n request clock requests.old ticks.old }
 {
@@ -28,6 +32,7 @@ fn store_request(n: usize, request: u32, clock: u64, requests: &mut Requests, ti
 }
 
 // The h-th history is filed: its j, its k, the n requests of its list.
+#[tactic(auto, unfolding(crate::specs::Enter::file_on))]
 fn file(
     h: usize,
     j: usize,
@@ -47,6 +52,7 @@ fn file(
 }
 
 // A request goes to the end of a row of n requests, if it is not among the noted ones; says how many there are then.
+#[tactic(auto, unfolding(crate::specs::Enter::add_missing))]
 fn add_missing(noted: &Requests, count: usize, request: u32, list: &mut Requests, n: usize) -> usize
     ensures { row list.new result ≡ add_missing (take count noted.now) request (row list.old n) }
 {
@@ -85,6 +91,7 @@ fn add_all_missing(
 
 // What a decision enters in the room's lists: a submitted request with its tick, a filed history with its list, or the history that the
 // switch leader builds, which is its noted requests and then the submitted ones that it has not noted.
+#[tactic(auto, unfolding(crate::specs::Enter::enter_on, crate::specs::Enter::built_row))]
 pub fn enter(
     decision: Decision,
     desk: Desk,
@@ -119,6 +126,7 @@ pub fn enter(
 // ---- settling
 
 // The request at a place of a list, 0 past its end.
+#[tactic(auto, unfolding(crate::specs::Apply::request_at))]
 fn request_at(list: &Requests, c: usize) -> u32
     ensures { result ≡ request_at list.now c }
 {
@@ -129,6 +137,7 @@ fn request_at(list: &Requests, c: usize) -> u32
 }
 
 // A replica that had settled c and now has settled d: when that has risen it executes the request that comes next and issues UPDATE on up.
+#[tactic(auto, unfolding(crate::specs::Apply::settle_on))]
 fn settle(
     p: Replica,
     c: usize,
@@ -152,6 +161,7 @@ fn settle(
 // ---- what each decision does
 
 // A running leader notes the request and issues PREPARE on ag.
+#[tactic(auto, unfolding(crate::specs::Apply::lead_on))]
 fn lead(p: Replica, request: u32, me: usize, ledger: &mut Ledger, issued: &mut Issued) -> Replica
     ensures { applied result (book ledger.new issued.new) ≡ lead_on p request me (book ledger.old issued.old) }
 {
@@ -183,6 +193,7 @@ fn issue_freely(
 }
 
 // The receiver of a PREPARE notes the request, issues COMMIT on ag naming the leader's value, and settles.
+#[tactic(auto, unfolding(crate::specs::Apply::prepare_on))]
 fn prepare(
     p: Replica,
     sender: usize,
@@ -207,6 +218,7 @@ fn prepare(
 }
 
 // The receiver of a COMMIT accepts it and settles.
+#[tactic(auto, unfolding(crate::specs::Apply::commit_on))]
 fn commit(
     p: Replica,
     sender: usize,
@@ -229,6 +241,7 @@ fn commit(
 }
 
 // The receiver of an UPDATE accepts it; its mark is that of its last settled pair.
+#[tactic(auto, unfolding(crate::specs::Apply::pair_on))]
 fn accept_pair(
     p: Replica,
     sender: usize,
@@ -265,6 +278,7 @@ fn mark_of(list: &Requests, n: usize) -> u32
 }
 
 // The mark of the list of the history that is held, 0 where there is none.
+#[tactic(auto, unfolding(crate::specs::Apply::held_mark))]
 fn held_mark(holding: bool, held: u32, heads: &Heads, lists: &Lists) -> u32
     ensures { result ≡ held_mark holding held heads.now lists.now }
 {
@@ -279,6 +293,7 @@ fn held_mark(holding: bool, held: u32, heads: &Heads, lists: &Lists) -> u32
 }
 
 // The receiver of a SWITCH accepts it; with f senders accepted it closes, with the mark of the list that it holds.
+#[tactic(auto, unfolding(crate::specs::Apply::switch_on))]
 fn accept_switch(
     p: Replica,
     sender: usize,
@@ -300,6 +315,7 @@ fn accept_switch(
 }
 
 // The receiver of a history holds it and issues SWITCH of it on sw.
+#[tactic(auto, unfolding(crate::specs::Apply::hand_on))]
 fn hand(p: Replica, history: u32, me: usize, ledger: &mut Ledger, issued: &mut Issued) -> Replica
     ensures { applied result (book ledger.new issued.new) ≡ hand_on p history me (book ledger.old issued.old) }
 {
@@ -308,6 +324,7 @@ fn hand(p: Replica, history: u32, me: usize, ledger: &mut Ledger, issued: &mut I
 }
 
 // The switch leader issues HISTORY of the h-th history on ag and up, holds it, and issues SWITCH of it on sw.
+#[tactic(auto, unfolding(crate::specs::Apply::build_on))]
 fn build(p: Replica, h: usize, me: usize, ledger: &mut Ledger, issued: &mut Issued) -> Replica
     ensures { applied result (book ledger.new issued.new) ≡ build_on p h me (book ledger.old issued.old) }
 {
@@ -321,6 +338,7 @@ fn build(p: Replica, h: usize, me: usize, ledger: &mut Ledger, issued: &mut Issu
 }
 
 // Whether a decision does anything to a record or a counter.
+#[tactic(auto, unfolding(crate::specs::Apply::moves_on))]
 pub fn moves(decision: Decision) -> bool
     ensures { result ≡ moves_on decision }
 {
@@ -336,6 +354,7 @@ pub fn moves(decision: Decision) -> bool
 }
 
 // What the replica concerned, `me`, does at what has reached it.
+#[tactic(auto, unfolding(crate::specs::Apply::act_on))]
 fn act_on(
     p: Replica,
     act: Act,
@@ -371,6 +390,7 @@ fn act_on(
 
 // What a decision does to the record of the replica concerned, `me`, and to the counters. The desk is the one before the decision is
 // counted, the histories those after it is entered.
+#[tactic(auto, unfolding(crate::specs::Apply::apply_on))]
 pub fn apply(
     p: Replica,
     decision: Decision,

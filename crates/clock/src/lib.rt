@@ -1,5 +1,8 @@
 // The clock comes first in every event: the gap is added, and lateness is tested once, before the event. Here is what that does to the
 // desk, and whether a request is answered. Nothing else is touched: lateness halts nobody.
+
+#![tactic(auto)]
+
 ghost use Rattle.std.specs.Prelude.{◌≡◌};
 ghost use Rattle.clock.specs.AnsweredOn.{updated_by, answered_on};
 ghost use Rattle.clock.specs.Tick.{due_at, is_due, passed, first_open, tick_on};
@@ -9,6 +12,7 @@ use room::{Desk, Roles};
 use terms::{Content, PLACES, REQUESTS, Requests, Table, Ticks, UP};
 
 // Whether every active replica's up value is UPDATE of this request with this mark.
+#[tactic(auto, unfolding(crate::specs::AnsweredOn::updated_by, crate::specs::AnsweredOn::has_updated))]
 fn updated(
     table: &Table,
     value: u32,
@@ -37,6 +41,7 @@ fn updated(
 }
 
 // A request is answered when for some value every active replica's up value is the same UPDATE of it, mark included: the leader's.
+#[tactic(auto, unfolding(crate::specs::AnsweredOn::answered_on))]
 pub fn answered(
     table: &Table,
     leader: usize,
@@ -58,6 +63,7 @@ pub fn answered(
 }
 
 // The tick of a submission plus the patience.
+#[tactic(auto, unfolding(crate::specs::Tick::due_at))]
 fn due_at(tick: u64, patience: u32) -> u64
     ensures { result ≡ due_at tick patience }
 {
@@ -65,6 +71,7 @@ fn due_at(tick: u64, patience: u32) -> u64
 }
 
 // Whether a submission of this tick has waited at least the patience.
+#[tactic(auto, unfolding(crate::specs::Tick::is_due))]
 fn is_due(tick: u64, patience: u32, clock: u64) -> bool
     ensures { result ≡ is_due tick patience clock }
 {
@@ -72,6 +79,7 @@ fn is_due(tick: u64, patience: u32, clock: u64) -> bool
 }
 
 // Whether submission i is due and answered.
+#[tactic(auto, unfolding(crate::specs::Tick::passed))]
 fn is_passed(
     i: usize,
     clock: u64,
@@ -95,6 +103,7 @@ fn is_passed(
 
 // The first submission, of those not known to be answered, that is not both due and answered. Ticks never fall, so that no later one is due
 // where this one is not.
+#[tactic(auto, unfolding(crate::specs::Tick::first_open))]
 fn first_open(
     known: usize,
     submitted: usize,
@@ -121,6 +130,7 @@ fn first_open(
 
 // Adds the gap. Where nothing was late before and some submission is unanswered and has waited at least the patience, the late tick is that
 // of the earliest such submission plus the patience.
+#[tactic(auto, unfolding(crate::specs::Tick::tick_on, crate::specs::Tick::stops_at))]
 pub fn tick(
     mut desk: Desk,
     gap: u32,

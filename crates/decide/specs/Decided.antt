@@ -1,12 +1,11 @@
 -- What an event is decided by on the parts as the player keeps them: the rules' own table of answers, asked of the arrays. That on a room's own parts
 -- it is what the rules decide is a law: DecidedLaws. Assumes nothing.
-use Rattle.std.specs.Prelude.{Bool, not, ◌&&◌, List, ℕ, take, leb}
+use Rattle.std.specs.Prelude.{Bool, not, ◌&&◌, ℕ, take, leb}
 use Rattle.std.proofs.Math.Option.{Option, none, some}
 use Rattle.terms.specs.Lent.{Table, Requests, Marks, Accepted, Heads, Lists}
 use Rattle.terms.specs.Limits.{replicas_max, ag, up}
 use Rattle.terms.specs.Lists.{pick, holds}
 use Rattle.terms.specs.declared.Event.{Event}
-use Rattle.terms.specs.declared.Event.TheVariants as Event
 use Rattle.terms.specs.declared.Decision.{Decision}
 use Rattle.terms.specs.declared.Decision.TheVariants.{Idle}
 use Rattle.rules.specs.Reading.{entry_at}

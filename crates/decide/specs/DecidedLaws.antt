@@ -10,7 +10,6 @@ use Rattle.terms.specs.Padding.{pad, take_pad, get_or_pad}
 use Rattle.terms.specs.Kit.{Kit, GoodKit, GoodEvent}
 use Rattle.terms.specs.declared.Content.{Content}
 use Rattle.terms.specs.declared.Event.{Event}
-use Rattle.terms.specs.declared.Event.TheVariants as Event
 use Rattle.terms.specs.declared.Decision.{Decision}
 use Rattle.rules.specs.Table.{is_active, switch_leader}
 use Rattle.rules.specs.Room.{Room}

@@ -1,9 +1,9 @@
 -- On a room's own parts, within its bounds: what a counter's value is bound to, and that validity is the rules'. Assumes nothing.
 use Rattle.std.specs.Prelude.{◌≡◌, refl, Bool, true, false, ◌&&◌, List, [], ◌∷◌, ℕ, zero, suc, ◌≤◌, ◌<◌, take, get_or, eqb}
-use Rattle.std.proofs.Common.{ap, arith}
+use Rattle.std.proofs.Common.{ap, arith, le-leb, le-ltb}
 use Rattle.std.proofs.Math.Option.{Option, none, some}
 use Rattle.std.proofs.Math.ListN.{length}
-use borrow.Author.Tests.{le-leb, lt-leb, le-ltb}
+use borrow.Author.Tests.{lt-leb}
 use Rattle.terms.specs.Limits.{replicas_max, ag, up, names, requests_max, histories_max}
 use Rattle.terms.specs.Lists.{nth, holds, distinct, all_of, all_below}
 use Rattle.terms.specs.ListLaws.{nth-lt, no_way}
@@ -11,9 +11,8 @@ use Rattle.terms.specs.Mark.{mark_of}
 use Rattle.terms.specs.Padding.{pad, length_pad, take_pad, take_pad-le, get_or_pad}
 use Rattle.terms.specs.Kit.{Kit}
 use Rattle.terms.specs.declared.Content.{Content}
-use Rattle.terms.specs.declared.Content.TheVariants as Content
 use Rattle.rules.specs.Table.{actives, switch_leader}
-use Rattle.rules.specs.Laws.TableLaws.{actives_ext}
+use Rattle.rules.proofs.Laws.TableLaws.{actives_ext}
 use Rattle.rules.specs.Room.{Room, Filing}
 use Rattle.rules.specs.Reading.{content_at, is_content}
 use Rattle.rules.specs.Switching.{is_committed, is_settled_by, is_valid, is_valid_filing}
@@ -23,11 +22,11 @@ use Rattle.ledger.specs.LedgerLaws as Ledger
 use Rattle.replica.specs.RecordLaws.{actives_laid}
 use Rattle.room.specs.Layout.{lay_table, lay_heads, lay_lists}
 use Rattle.room.specs.LayoutLaws.{head_laid, list_laid}
-use Rattle.rules.specs.Agreement.Invariant.{FilingBounds}
+use Rattle.rules.proofs.Agreement.Invariant.{FilingBounds}
 use Rattle.room.specs.Bounds.{Bounds}
 use Rattle.room.specs.GoodLaws.{size_max, leader_max, switch_max}
 use Rattle.validity.specs.Validity.{is_committed_at, is_committed_on, is_common_to, is_settled_at, is_settled_on, is_listed, is_borne_out, is_filed_at, is_valid_on}
-use Rattle.rules.specs.Laws.ReadingLaws.{entry_at-suc}
+use Rattle.rules.proofs.Laws.ReadingLaws.{entry_at-suc}
 
 -- ---- tests that agree where they are asked
 

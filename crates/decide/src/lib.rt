@@ -1,4 +1,7 @@
 // What an event comes to: the answers in their order, and what is to be done where the event is taken. Everything is read, nothing changed.
+
+#![tactic(auto)]
+
 ghost use Rattle.std.specs.Prelude.{◌≡◌, ◌-◌, not, ◌&&◌, leb, eqb, get_or, take};
 ghost use Rattle.terms.specs.Limits.{ag, sw};
 ghost use Rattle.terms.specs.Numbers.{answer_number};
@@ -75,6 +78,7 @@ fn is_faulty(condition: Condition) -> bool
 }
 
 // One of the seven records.
+#[tactic(auto, unfolding(crate::specs::Decided::below_seven))]
 fn below_seven(n: usize) -> usize
     ensures { result ≡ below_seven n }
 {
@@ -85,6 +89,7 @@ fn below_seven(n: usize) -> usize
 }
 
 // The replica whose record an event concerns: the leader where a request is submitted, the switch leader where it builds.
+#[tactic(auto, unfolding(crate::specs::Decided::concerned_in, crate::specs::Decided::below_seven))]
 pub fn concerned(event: Event, roles: Roles) -> usize
     ensures { result ≡ concerned_in event roles }
 {
@@ -101,6 +106,7 @@ pub fn concerned(event: Event, roles: Roles) -> usize
 }
 
 // Kind 1: already submitted; 64 submitted.
+#[tactic(auto, unfolding(rules::specs::Submit::decide_submit, rules::specs::Outcome::refuse_if))]
 fn submit(requests: &Requests, submitted: usize, request: u32) -> Decision
     ensures { result ≡ decide_submit (λ q. holds q (take submitted requests.now)) submitted request }
 {
@@ -127,6 +133,7 @@ fn names_unfiled(histories: usize, content: Content) -> bool
 }
 
 // Kind 2: not faulty; an unfiled history named; the counter full.
+#[tactic(auto, unfolding(rules::specs::Submit::decide_issue, ledger::specs::Ledger::total_of, rules::specs::Outcome::refuse_if))]
 fn issue(
     issued: &Issued,
     condition: Condition,
@@ -169,6 +176,7 @@ fn is_new(
 }
 
 // From the leader: PREPARE of a new request.
+#[tactic(auto, unfolding(rules::specs::Deliver::decide_prepare, rules::specs::Outcome::refuse_if))]
 fn prepare(
     requests: &Requests,
     submitted: usize,
@@ -198,6 +206,7 @@ fn is_noted(value: u32, count: usize) -> bool
 }
 
 // From another active replica: COMMIT of the receiver's noted request of that value, which must exist.
+#[tactic(auto, unfolding(rules::specs::Deliver::decide_commit, rules::specs::Outcome::refuse_if))]
 fn commit(noted: &Requests, count: usize, sender: usize, value: u32, content: Content) -> Decision
     ensures { result ≡ decide_commit count (entry_at noted.now) sender value (some content) }
 {
@@ -212,6 +221,7 @@ fn commit(noted: &Requests, count: usize, sender: usize, value: u32, content: Co
 }
 
 // A pair that the receiver has noted: UPDATE equal to it.
+#[tactic(auto, unfolding(rules::specs::Deliver::decide_pair, rules::specs::Outcome::refuse_if))]
 fn known_pair(
     noted: &Requests,
     marks: &Marks,
@@ -231,6 +241,7 @@ fn known_pair(
 }
 
 // A pair that the receiver has not noted: UPDATE of a new request.
+#[tactic(auto, unfolding(rules::specs::Deliver::decide_update, rules::specs::Outcome::refuse_if))]
 fn new_pair(
     requests: &Requests,
     submitted: usize,
@@ -254,6 +265,7 @@ fn new_pair(
 }
 
 // On sw: SWITCH of the history that the receiver holds.
+#[tactic(auto, unfolding(rules::specs::Deliver::decide_sw, rules::specs::Outcome::refuse_if))]
 fn switch(holding: bool, held: u32, sender: usize, value: u32, content: Content) -> Decision
     ensures { result ≡ decide_sw (held_in holding held) sender value (some content) }
 {
@@ -267,6 +279,7 @@ fn switch(holding: bool, held: u32, sender: usize, value: u32, content: Content)
 }
 
 // What is expected, by the counter's name.
+#[tactic(auto, unfolding(rules::specs::Deliver::decide_content, rules::specs::Deliver::decide_ag, rules::specs::Deliver::decide_up))]
 fn on_content(
     standing: Standing,
     leader: usize,
@@ -298,6 +311,7 @@ fn on_content(
 }
 
 // On ag or up to a halted or closed receiver; on sw to a closed one.
+#[tactic(auto, unfolding(rules::specs::Deliver::is_too_late))]
 fn is_too_late(name: usize, condition: Condition) -> bool
     ensures { result ≡ is_too_late name condition }
 {
@@ -321,6 +335,7 @@ fn is_too_early(name: usize, holding: bool, held: u32) -> bool
 }
 
 // The sender is not the receiver; ag needs both active; up needs an active sender and a passive receiver.
+#[tactic(auto, unfolding(rules::specs::Deliver::has_wrong_roles, replica::specs::Record::active_in))]
 fn has_wrong_roles(table: &Table, sender: usize, name: usize, to: usize) -> bool
     ensures { result ≡ has_wrong_roles (active_in table.now) sender name to }
 {
@@ -345,6 +360,7 @@ fn has_wrong_roles(table: &Table, sender: usize, name: usize, to: usize) -> bool
 }
 
 // Kind 3 once the certificate is known to be issued: too late; too early; roles; not the next value; then the content.
+#[tactic(auto, unfolding(rules::specs::Deliver::decide_receive, replica::specs::Record::active_in, replica::specs::Record::accepted_in, rules::specs::Outcome::refuse_if))]
 fn receive(
     standing: Standing,
     leader: usize,
@@ -382,6 +398,7 @@ fn receive(
 }
 
 // Kind 3: receiver faulty; not issued; then what the receiver makes of it.
+#[tactic(auto, unfolding(rules::specs::Deliver::decide_deliver, replica::specs::Record::active_in, replica::specs::Record::accepted_in, rules::specs::Outcome::refuse_if))]
 fn deliver(
     standing: Standing,
     leader: usize,
@@ -415,6 +432,7 @@ fn deliver(
 }
 
 // Kind 4 once both certificates are known to be issued, the one on ag of history h: too late; too early; roles; not valid.
+#[tactic(auto, unfolding(rules::specs::Switching::decide_hold, rules::specs::Outcome::refuse_if))]
 fn hold(
     standing: Standing,
     roles: Roles,
@@ -466,6 +484,7 @@ fn hold(
 }
 
 // Kind 4: receiver faulty; either certificate not issued; then whether the history is held.
+#[tactic(auto, unfolding(rules::specs::Switching::decide_hand, rules::specs::Outcome::refuse_if))]
 fn hand(
     standing: Standing,
     roles: Roles,
@@ -504,6 +523,7 @@ fn hand(
 }
 
 // Kind 5: receiver faulty; halted or closed.
+#[tactic(auto, unfolding(rules::specs::Switching::decide_panic, rules::specs::Outcome::refuse_if))]
 fn panic(condition: Condition) -> Decision
     ensures { result ≡ decide_panic condition }
 {
@@ -516,6 +536,7 @@ fn panic(condition: Condition) -> Decision
 }
 
 // Kind 7: the switch leader faulty, running, or holding a history. j is its settled count, k its ag total.
+#[tactic(auto, unfolding(rules::specs::Switching::decide_build, replica::specs::Record::settled_in, ledger::specs::Ledger::total_of, rules::specs::Outcome::refuse_if))]
 fn build(
     standing: Standing,
     roles: Roles,
@@ -541,6 +562,7 @@ fn build(
 }
 
 // Kind 8: events 8 have filed seven.
+#[tactic(auto, unfolding(rules::specs::Submit::decide_file, rules::specs::Outcome::refuse_if))]
 fn file(filed: usize, j: u32, k: u32) -> Decision
     ensures { result ≡ decide_file filed j k }
 {
@@ -552,6 +574,7 @@ fn file(filed: usize, j: u32, k: u32) -> Decision
 
 // What an event comes to: a refusal, by the answers in their order, or what is to be done. `standing`, `noted`, `marks` and `accepted` are
 // of the replica concerned.
+#[tactic(auto, unfolding(crate::specs::Decided::decide_on))]
 pub fn decide<'a>(
     event: Event,
     standing: Standing,

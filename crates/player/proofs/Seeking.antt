@@ -1,13 +1,5 @@
 -- The switch leader is sought from replica 0 on: those from x on decide. Assumes nothing.
-use mathlib.Core.Path.{◌≡◌, sym, ◌∙◌}
-use mathlib.Core.Bool.{true, false}
-use mathlib.Core.Logic.{◌≢◌}
-use mathlib.Core.List.{List}
-use Prim.Native.Nat.{ℕ, ◌+◌, ◌≤◌, ◌<◌}
-use native.Mathlib.Numerals.{add-one}
-use lib.ListN.{length, drop, get_or, drop_of_length-le}
-use lib.Seq.{drop-cons}
-use borrow.Author.Tests.{eq-eqb, ne_eqb}
+use Rattle.std.proofs.Common.{◌≡◌, sym, ◌∙◌, true, false, ◌≢◌, List, ℕ, ◌+◌, ◌≤◌, ◌<◌, add-one, length, drop, get_or, drop_of_length-le, drop-cons, eq-eqb, ne_eqb}
 use Rattle.terms.specs.Kit.{marks_active}
 use Rattle.rules.specs.Table.{actives_from, first_but}
 

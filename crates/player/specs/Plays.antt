@@ -1,9 +1,7 @@
 -- Demand 2, stated: for every n, the player's loop over a good kit's events has after the first n of them the rules' `after kit n` laid out,
 -- padding included, with the rules' clocks and answers; and so what `play` leaves (`plays_first`). Assumes nothing.
-use Rattle.std.specs.Prelude.{◌≡◌, List, [], ◌∷◌, length, replicate}
-use Rattle.std.proofs.Common.{ap, ◌∙◌}
-use Prim.Native.Nat.{ℕ, zero, suc, ◌+◌, ◌≤◌, min}
-use native.Mathlib.Omega.{arith}
+use Rattle.std.specs.Prelude.{◌≡◌, List, [], ◌∷◌, length, replicate, ℕ, zero, suc, ◌+◌, ◌≤◌, min}
+use Rattle.std.proofs.Common.{ap, ◌∙◌, arith}
 use Rattle.std.proofs.Math.Numerals.{add-one}
 use Rattle.std.proofs.lemmas.List.{length-replicate}
 use Rattle.terms.specs.Limits.{requests_max, histories_max, events_max}
@@ -21,8 +19,8 @@ use Rattle.room.specs.Said.{Says}
 use Rattle.room.specs.Layout.{Parts, lay_roles, lay_table, lay_desk, lay_heads, lay_lists, lay_replicas, lay_room}
 use Rattle.kit.specs.declared.Settings.{Settings}
 use Rattle.kit.specs.Cursor.{CursorAt}
-use Rattle.clock.specs.KnownLaws.{known_fresh}
-use Rattle.player.specs.Turn.{Stage, Left, stage, left_of, turns_from, playFrom, play_on}
+use Rattle.clock.proofs.KnownLaws.{known_fresh}
+use Rattle.player.specs.Turn.{Stage, Left, stage, left_of, turns_from, played_from_records, play_on}
 use Rattle.player.specs.Opening.{fresh_replicas}
 use Rattle.player.specs.OpeningLaws.{fresh_replicas_laid, Opens}
 use Rattle.player.specs.Shows.{Shows, one_turn}
@@ -131,7 +129,7 @@ module _ (bytes : List ℕ) (kit : Kit) (good : GoodKit kit) (settings : Setting
   shown n fits = player_shows bytes kit good n fits first_stage is_fresh
 
   played : (n : ℕ) → n ≤ length kit.events → played_from bytes settings n ≡ left_of (stage_after n)
-  unfolding played_from play_on playFrom
+  unfolding played_from play_on played_from_records
   played n fits =
       let few : min n events_max ≡ n = omega (arith, good.event_count, fits) in
       rw (opens.roles, opens.table, few)

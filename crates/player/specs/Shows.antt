@@ -16,14 +16,14 @@ use Rattle.terms.specs.declared.Answer.{Answer}
 use Rattle.rules.specs.Room.{Room}
 use Rattle.rules.specs.Clock.{tick}
 use Rattle.rules.specs.Play.{on_event, step, after, answer}
-use Rattle.rules.specs.Laws.Growth.{Grows, event_grows, after_suc}
-use Rattle.rules.specs.Laws.Time.{step_clock}
-use Rattle.rules.specs.Laws.Refused.{tick_ticked}
+use Rattle.rules.proofs.Laws.Growth.{Grows, event_grows, after_suc}
+use Rattle.rules.proofs.Laws.Time.{step_clock}
+use Rattle.rules.proofs.Laws.Refused.{tick_ticked}
 use Rattle.replica.specs.declared.Replica.{Replica}
 use Rattle.replica.specs.RecordLayout.{lay_replica}
 use Rattle.rules.specs.Outcome.{answer_of}
 use Rattle.rules.specs.Decide.{concerned, decide, carried_out}
-use Rattle.rules.specs.Laws.Tested.{Tested, tested}
+use Rattle.rules.proofs.Laws.Tested.{Tested, tested}
 use Rattle.room.specs.Layout.{Parts, lay_roles, lay_table, lay_desk, lay_room}
 use Rattle.room.specs.LayoutLaws.{replica_laid}
 use Rattle.room.specs.Bounds.{Bounds}
@@ -32,13 +32,12 @@ use Rattle.room.specs.Reached.{reached, reached_tick}
 use Rattle.room.specs.declared.Roles.{Roles}
 use Rattle.room.specs.declared.Desk.{Desk}
 use Rattle.terms.specs.declared.Decision.{Decision}
-use Rattle.terms.specs.declared.Decision.TheVariants as Decision
 use Rattle.kit.specs.Reader.{next_in, list_after, filed_into}
 use Rattle.kit.specs.Cursor.{CursorAt, EntryRead, next_cursor}
 use Rattle.clock.specs.Clocked.{clock_on}
 use Rattle.clock.specs.Known.{Known}
-use Rattle.clock.specs.KnownLaws.{known_grows}
-use Rattle.clock.specs.ClockLaws.{known_after, known_after_lem, clock_laid}
+use Rattle.clock.proofs.KnownLaws.{known_grows}
+use Rattle.clock.proofs.ClockLaws.{known_after, known_after_lem, clock_laid}
 use Rattle.decide.specs.DecidedLaws.{concerned_laid, decided_laid}
 use Rattle.carry_out.specs.Enter.{Submissions, Filings, enter_on}
 use Rattle.carry_out.specs.Done.{done_on}
@@ -48,25 +47,25 @@ use Rattle.player.specs.Turn.{Stage, no_replica, turn_on}
 -- ---- only an event 8 looks at the list beside it
 
 -- what is read beside the event serves as well as its requests padded
-enter-read
+enter_read
     : (kit : Kit) (r : Room) (event : Event) (x : ℕ) (d : Decision) → Tested kit r event x d
     → (desk : Desk) (noted : List ℕ) (count : ℕ) (requests before : List ℕ) (n : ℕ) (s : Submissions) (f : Filings)
     → enter_on d desk noted count (filed_into event requests before) n s f ≡ enter_on d desk noted count (pad requests_max requests) n s f
 unfolding enter_on pad
-enter-read kit r event x (Decision.Refuse answer) t desk noted count l b n s f = refl
-enter-read kit r event x (Decision.Submit request) t desk noted count l b n s f = refl
-enter-read kit r event x (Decision.Issue replica name content) t desk noted count l b n s f = refl
-enter-read kit r event x (Decision.Act act) t desk noted count l b n s f = refl
-enter-read kit r event x Decision.Idle t desk noted count l b n s f = refl
-enter-read kit r event x (Decision.Build j k) t desk noted count l b n s f = refl
-enter-read kit r event x (Decision.File j k) t desk noted count l b n s f = rw t.event
+enter_read kit r event x (Decision.Refuse answer) t desk noted count l b n s f = refl
+enter_read kit r event x (Decision.Submit request) t desk noted count l b n s f = refl
+enter_read kit r event x (Decision.Issue replica name content) t desk noted count l b n s f = refl
+enter_read kit r event x (Decision.Act act) t desk noted count l b n s f = refl
+enter_read kit r event x Decision.Idle t desk noted count l b n s f = refl
+enter_read kit r event x (Decision.Build j k) t desk noted count l b n s f = refl
+enter_read kit r event x (Decision.File j k) t desk noted count l b n s f = rw t.event
 
 done_read : (kit : Kit) (r : Room) (roles : Roles) (table : List ℕ) (parts : Parts) (p : Replica) (me : ℕ) (event : Event) (requests before : List ℕ) (n : ℕ)
     → done_on roles table parts p me (decide kit r event) (filed_into event requests before) n
     ≡ done_on roles table parts p me (decide kit r event) (pad requests_max requests) n
 unfolding done_on
 done_read kit r roles table parts p me event requests before n =
-    rw (enter-read kit r event (concerned kit event) (decide kit r event) (tested kit r event) parts.desk p.noted p.count requests before n)
+    rw (enter_read kit r event (concerned kit event) (decide kit r event) (tested kit r event) parts.desk p.noted p.count requests before n)
 
 -- ---- the stage after n events shows the rules' room
 

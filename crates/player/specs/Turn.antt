@@ -101,7 +101,7 @@ left p answers clocks requests ticks heads lists ledger issued =
     left_of (stage p.desk p.replicas answers clocks requests ticks heads lists ledger issued [] 0)
 
 -- the first events, `most` of them and no more than a kit has; the first stands at this place
-unfoldable pub playFrom
+unfoldable pub played_from_records
     : List ℕ
     → ℕ
     → ℕ
@@ -117,7 +117,7 @@ unfoldable pub playFrom
     → Ledger
     → Issued
     → Left
-playFrom bytes first most roles table fresh answers clocks requests ticks heads lists ledger issued =
+played_from_records bytes first most roles table fresh answers clocks requests ticks heads lists ledger issued =
     left_of
     (turns_from bytes roles table 0 (min most events_max)
     (stage fresh_desk fresh answers clocks requests ticks heads lists ledger issued (replicate requests_max 0) first))
@@ -125,4 +125,4 @@ playFrom bytes first most roles table fresh answers clocks requests ticks heads 
 -- the same from the room that these settings open
 unfoldable pub play_on : List ℕ → Settings → ℕ → Answers → Clocks → Requests → Ticks → Heads → Lists → Ledger → Issued → Left
 play_on bytes s most answers clocks requests ticks heads lists ledger issued =
-    playFrom bytes s.first most (roles_in s) s.table (fresh_replicas s.table) answers clocks requests ticks heads lists ledger issued
+    played_from_records bytes s.first most (roles_in s) s.table (fresh_replicas s.table) answers clocks requests ticks heads lists ledger issued

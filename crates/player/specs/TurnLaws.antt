@@ -41,7 +41,7 @@ module _ (bytes : List ℕ) (roles : Roles) (table : List ℕ) (k : ℕ) (s : St
     ≡ enter_on d desk (get_or s.parts.replicas me no_replica).noted (get_or s.parts.replicas me no_replica).count list e.count
     (submissions s.parts.requests s.parts.ticks) (filings s.parts.heads s.parts.lists))
     (hk : c ≡ counted_on desk d) where
-  pub turn-made
+  pub turn_made
       : {a : Applied}
       → a
       ≡ apply_on (get_or s.parts.replicas me no_replica) d desk me roles table n.heads n.lists (book s.parts.ledger s.parts.issued)
@@ -49,16 +49,16 @@ module _ (bytes : List ℕ) (roles : Roles) (table : List ℕ) (k : ℕ) (s : St
       ≡ stage c (set s.parts.replicas me a.replica) (set s.answers k answer) (set s.clocks k desk.clock) n.requests n.ticks n.heads
       n.lists a.counters.ledger a.counters.issued list e.next
   unfolding turn_on clock_on decided_on done_on
-  turn-made hp = rw (hk, hp, ha, hn, hc, hm, hd, hl, he)
+  turn_made hp = rw (hk, hp, ha, hn, hc, hm, hd, hl, he)
 
   -- an event that moves nothing: the records and the counters stay
-  pub turn-still
+  pub turn_still
       : moves_on d ≡ false
       → turn_on bytes roles table k s
       ≡ stage c s.parts.replicas (set s.answers k answer) (set s.clocks k desk.clock) n.requests n.ticks n.heads n.lists
       s.parts.ledger s.parts.issued list e.next
-  turn-still hq =
-      turn-made
+  turn_still hq =
+      turn_made
       (sym (still (get_or s.parts.replicas me no_replica) desk me roles table n.heads n.lists (book s.parts.ledger s.parts.issued) d hq))
       ∙ rw (set-get_or s.parts.replicas me no_replica)
 

@@ -1,7 +1,10 @@
 // The player: the first events of a kit, one after the other, on the room's parts. The loop owns the replicas' records and is lent the rest, so
 // that no function takes the room; an event is read, the clock ticks, what it comes to is decided, and that is carried out.
+
+#![tactic(auto)]
+
 ghost use Rattle.std.specs.Prelude.{◌≡◌};
-ghost use Rattle.player.specs.Turn.{left, playFrom, play_on};
+ghost use Rattle.player.specs.Turn.{left, played_from_records, play_on};
 
 use kit::Settings;
 use ledger::{Issued, Ledger};
@@ -12,13 +15,14 @@ use terms::{Answers, Clocks, EVENTS, Heads, Lists, REQUESTS, Requests, Table, Ti
 pub mod opening;
 
 // What the loop itself owned when the play ended; the other parts stand in what it was lent.
-#[derive(Drop)]
+#[derive(Clone, Copy)]
 pub struct Played {
     pub desk: Desk,
     pub replicas: Replicas,
 }
 
 // Plays the first `most` events of a kit whose first event stands at `first`, from a fresh desk, these records and what is lent.
+#[tactic(auto, unfolding(crate::specs::Turn::played_from_records))]
 fn play_from(
     bytes: &[u8],
     first: usize,
@@ -35,7 +39,7 @@ fn play_from(
     ledger: &mut Ledger,
     issued: &mut Issued,
 ) -> Played
-    ensures { left result answers.new clocks.new requests.new ticks.new heads.new lists.new ledger.new issued.new ≡ playFrom bytes.now first most roles table.now fresh answers.old clocks.old requests.old ticks.old heads.old lists.old ledger.old issued.old }
+    ensures { left result answers.new clocks.new requests.new ticks.new heads.new lists.new ledger.new issued.new ≡ played_from_records bytes.now first most roles table.now fresh answers.old clocks.old requests.old ticks.old heads.old lists.old ledger.old issued.old }
 {
     let mut replicas = fresh;
     let mut desk = Desk::fresh();
@@ -94,6 +98,7 @@ fn play_from(
 
 // Plays the first `most` events of a kit with these settings, from the room that they open and what is lent. After it answers[k] and clocks[k]
 // are event k's; entries past the last event are as they were.
+#[tactic(auto, unfolding(crate::specs::Turn::play_on))]
 pub fn play(
     bytes: &[u8],
     settings: Settings,

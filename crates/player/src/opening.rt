@@ -10,6 +10,7 @@ use room::Roles;
 use terms::Table;
 
 // The active replica of lowest number apart from the leader.
+#[tactic(auto, unfolding(crate::specs::Opening::switch_leader_of))]
 pub fn switch_leader(table: &Table, leader: usize) -> usize
     ensures { result ≡ switch_leader_of table.now leader }
 {
@@ -36,6 +37,7 @@ fn fresh_replica(n: u32) -> Replica
 }
 
 // The replicas of a table, before the first event.
+#[tactic(auto, unfolding(crate::specs::Opening::fresh_replicas, terms::specs::Tabulate::tab))]
 pub fn fresh_replicas(table: &Table) -> Replicas
     ensures { result ≡ fresh_replicas table.now }
 {
@@ -50,6 +52,7 @@ pub fn fresh_replicas(table: &Table) -> Replicas
 }
 
 // What the settings say of the replicas, and the patience.
+#[tactic(auto, unfolding(crate::specs::Opening::roles_in))]
 pub fn roles_of(settings: Settings) -> Roles
     ensures { result ≡ roles_in settings }
 {

@@ -1,12 +1,5 @@
 -- Loops that stop at the first that fails a test: of every number below n, and of every active replica. Assumes nothing.
-use mathlib.Core.Path.{◌≡◌, sym, ◌∙◌}
-use mathlib.Core.Bool.{Bool, true, false, ◌&&◌}
-use Prim.Native.Nat.{ℕ, suc, ◌+◌, ◌≤◌, ◌<◌}
-use native.Mathlib.Omega.{arith}
-use native.Mathlib.Numerals.{add-one}
-use mathlib.Core.List.{List}
-use lib.ListN.{length, drop, get_or, drop_of_length-le}
-use lib.Seq.{drop-cons}
+use Rattle.std.proofs.Common.{◌≡◌, sym, ◌∙◌, Bool, true, false, ◌&&◌, ℕ, suc, ◌+◌, ◌≤◌, ◌<◌, arith, add-one, List, length, drop, get_or, drop_of_length-le, drop-cons}
 use Rattle.terms.specs.Lists.{pick, all_below, all_of}
 use Rattle.terms.specs.ListLaws.{split}
 use Rattle.terms.specs.Kit.{marks_active}

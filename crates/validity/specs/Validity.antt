@@ -6,7 +6,6 @@ use Rattle.terms.specs.Lent.{Table, Requests, Heads, Lists}
 use Rattle.terms.specs.Lists.{pick, holds, distinct, all_of, all_below}
 use Rattle.terms.specs.Mark.{mark_of}
 use Rattle.terms.specs.declared.Content.{Content}
-use Rattle.terms.specs.declared.Content.TheVariants as Content
 use Rattle.rules.specs.Table.{actives_from}
 use Rattle.rules.specs.Reading.{is_content}
 use Rattle.ledger.specs.Ledger.{Ledger, Issued, content_on}

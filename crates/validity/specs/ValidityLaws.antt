@@ -1,5 +1,5 @@
 -- Laws of Validity: a history's list entry by entry. Assumes nothing.
-use Rattle.std.specs.Prelude.{◌≡◌, Bool, not, ◌&&◌, List, ℕ, ◌-◌, ◌≤◌, length, take, get_or}
+use Rattle.std.specs.Prelude.{◌≡◌, Bool, not, ◌&&◌, List, ℕ, ◌≤◌, length, take, get_or}
 use Rattle.std.proofs.Common.{ap, ◌∙◌}
 use Rattle.terms.specs.Lists.{holds, distinct, all_below}
 use Rattle.validity.specs.Entries.{all_of_entries, distinct_entries, all_below-and}

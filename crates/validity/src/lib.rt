@@ -1,4 +1,7 @@
 // Whether the counters bear a history out: what the hand asks before a history is held. Contents are compared with what was issued.
+
+#![tactic(auto)]
+
 ghost use Rattle.std.specs.Prelude.{◌≡◌, true, ◌≤◌, length, take};
 ghost use Rattle.terms.specs.Limits.{requests_max};
 ghost use Rattle.terms.specs.Lists.{pick, all_below, all_of};
@@ -18,6 +21,7 @@ fn narrow(x: usize) -> u32
 }
 
 // The switch leader's ag value is COMMIT of that request and value, the leader's is PREPARE of it.
+#[tactic(auto, unfolding(crate::specs::Validity::is_committed_at))]
 fn is_committed(
     ledger: &Ledger,
     issued: &Issued,
@@ -37,6 +41,7 @@ fn is_committed(
 }
 
 // The first k of a list are committed.
+#[tactic(auto, unfolding(crate::specs::Validity::is_committed_on))]
 fn are_committed(
     ledger: &Ledger,
     issued: &Issued,
@@ -63,6 +68,7 @@ fn are_committed(
 }
 
 // The ag value of an active replica x, marked so by its number of the table, is that COMMIT too; leader and switch leader excepted.
+#[tactic(auto, unfolding(crate::specs::Validity::is_common_to))]
 fn is_common(
     ledger: &Ledger,
     issued: &Issued,
@@ -89,6 +95,7 @@ fn is_common(
 }
 
 // The same of every active replica.
+#[tactic(auto, unfolding(crate::specs::Validity::is_common_to))]
 fn are_common(
     ledger: &Ledger,
     issued: &Issued,
@@ -114,6 +121,7 @@ fn are_common(
 }
 
 // All active replicas have that COMMIT, and the switch leader's up value is UPDATE of that request and mark.
+#[tactic(auto, unfolding(crate::specs::Validity::is_settled_at))]
 fn is_settled(
     ledger: &Ledger,
     issued: &Issued,
@@ -134,6 +142,7 @@ fn is_settled(
 }
 
 // The first j of a list are settled, each with the mark of the requests up to it.
+#[tactic(auto, unfolding(crate::specs::Validity::is_settled_on))]
 fn are_settled(
     ledger: &Ledger,
     issued: &Issued,
@@ -165,6 +174,7 @@ fn are_settled(
 }
 
 // The whole list, its first n places, is submitted and without repeats.
+#[tactic(auto, unfolding(crate::specs::Validity::is_listed))]
 fn is_listed(requests: &Requests, submitted: usize, list: &Requests, n: usize) -> bool
     requires { n ≤ length list.now }
     ensures { result ≡ is_listed (take submitted requests.now) (take n list.now) }
@@ -186,6 +196,7 @@ fn is_listed(requests: &Requests, submitted: usize, list: &Requests, n: usize) -
 }
 
 // A history (j, k, list of n) is valid at ag value p and up value q, as far as its own numbers, its list and the counters say.
+#[tactic(auto, unfolding(crate::specs::Validity::is_borne_out))]
 fn is_borne_out(
     ledger: &Ledger,
     issued: &Issued,
@@ -224,6 +235,7 @@ fn is_borne_out(
 }
 
 // The history of number h, of the first `histories`, is borne out, and p and q are the values after its k and its j.
+#[tactic(auto, unfolding(crate::specs::Validity::is_filed_at))]
 fn is_filed(
     ledger: &Ledger,
     issued: &Issued,
@@ -263,6 +275,7 @@ fn is_filed(
 
 // The history of number h, of the first `histories`, is valid at the switch leader's ag value p and up value q: both are HISTORY of it,
 // and the counters bear it out.
+#[tactic(auto, unfolding(crate::specs::Validity::is_valid_on))]
 pub fn is_valid(
     ledger: &Ledger,
     issued: &Issued,

@@ -1,0 +1,11 @@
+-- `answered`: no value above this one answers the request, so that those up to it decide. Assumes nothing.
+use Rattle.clock.specs.AnsweredOn.{answered_on, answered_at_on}
+use Rattle.clock.proofs.Turns.{Seeking}
+use Rattle.clock.proofs.answered.Given as goal
+
+abbrev pub invariant-loop-value : goal.invariant-loop-value
+invariant-loop-value l =
+    Seeking (answered_on l.table l.leader l.request l.ledger l.issued) (answered_at_on l.table l.leader l.request l.ledger l.issued) l.value
+
+abbrev pub decreases-loop-value : goal.decreases-loop-value
+decreases-loop-value l = l.value
