@@ -1,7 +1,6 @@
 -- The lines of the parts that the player keeps are the rules' where the parts are a laid-out room, and the clocks and answers are the
 -- rules'. Assumes nothing.
-use Rattle.std.specs.Prelude.{◌≡◌, refl, Bool, true, false, List}
-use Prim.Native.Nat.{ℕ, ◌≤◌, ◌<◌, min}
+use Rattle.std.specs.Prelude.{◌≡◌, refl, Bool, true, false, List, ℕ, ◌≤◌, ◌<◌, min}
 use Rattle.std.proofs.Common.{arith}
 use Rattle.std.proofs.Math.ListN.{length}
 use Rattle.terms.specs.Limits.{events_max, replicas_max}
@@ -11,7 +10,7 @@ use Rattle.terms.specs.Kit.{Kit}
 use Rattle.rules.specs.Room.{Room, fresh_replica}
 use Rattle.rules.specs.Room as Rules
 use Rattle.rules.specs.Reading.{is_faulty}
-use Rattle.rules.specs.Play.{after, answer}
+use Rattle.rules.specs.Play.{after}
 use Rattle.ledger.specs.LedgerLayout.{lay_issued}
 use Rattle.replica.specs.RecordLayout.{lay_replica}
 use Rattle.room.specs.Layout.{Parts, lay_roles, lay_table, lay_heads, lay_lists, lay_desk, lay_replicas, lay_room}
@@ -47,12 +46,12 @@ module _ (kit : Kit) (r : Room) (b : Bounds kit r) where
   unfolding replica_line replica_said
   replica_said_lem x below = rw (settled_shown_lem kit r b x below, mark_said (r.replica x), condition_said (r.replica x))
 
-  pub replicas-said
+  pub replicas_said
       : replica_lines (lay_replicas r.replica) (lay_roles kit) (lay_table kit) (lay_heads r.histories) (lay_lists r.histories)
       (lay_issued r.counter)
       ≡ lines_from 0 (length kit.table) (replica_said kit r)
   unfolding replica_lines lay_roles
-  replicas-said =
+  replicas_said =
       let m : min (length kit.table) replicas_max ≡ length kit.table = omega (arith, (size_max b.good)) in
       rw m
       (lines_ext (length kit.table) 0 _ _
@@ -75,4 +74,4 @@ parts_lines kit n clocks answers p =
 pub play_said : (kit : Kit) (n : ℕ) → n ≤ events_max → Bounds kit (after kit n) → (clocks : Clocks) (answers : Answers) → Says kit n clocks answers
     → (known : ℕ) → parts_lines kit n clocks answers (lay_room (after kit n) known) ≡ text_after kit n
 unfolding lines_of_play text_after room_said lay_room lay_desk
-play_said kit n small b clocks answers s known = rw (events_said kit n small clocks answers s, replicas-said kit (after kit n) b)
+play_said kit n small b clocks answers s known = rw (events_said kit n small clocks answers s, replicas_said kit (after kit n) b)

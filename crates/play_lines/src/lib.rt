@@ -1,5 +1,7 @@
 // The printed play: one line for each event, one for each replica, and the late tick; and the line of a refused kit. What no longer fits
 // into the lent buffer is left out, and the place that is given back is then the buffer's end: a text that ends before it is whole.
+#![tactic(auto)]
+
 ghost use Rattle.std.specs.Prelude.{take};
 ghost use Rattle.terms.specs.Numbers.{condition_word};
 ghost use Rattle.text.specs.Text.{Lays};

@@ -9,16 +9,17 @@ use Rattle.terms.specs.ListLaws.{no_way, nth-lt}
 use Rattle.terms.specs.Kit.{Kit, GoodKit}
 use Rattle.rules.specs.Room.{Filing}
 use Rattle.rules.specs.Play.{after}
-use Rattle.rules.specs.Laws.Instead.{each_none, each_first}
-use Rattle.rules.specs.Agreement.Built.{BuiltAt}
-use Rattle.rules.specs.Agreement.Believed.{handing, OwnValues, Receiver, SwitchLeaderBelieved, switch_leader_believed}
-use Rattle.rules.specs.Agreement.HandedIn.{CanHandIn, handed_in, PlaysHandedIn, hand_instead, plays_handed_in, good_handed_in, values_few}
+use Rattle.rules.proofs.Laws.Instead.{each_none, each_first}
+use Rattle.rules.proofs.Agreement.Built.{BuiltAt}
+use Rattle.rules.proofs.Agreement.Believed.{handing, OwnValues, Receiver, SwitchLeaderBelieved, switch_leader_believed}
+use Rattle.rules.proofs.Agreement.HandedIn.{CanHandIn, handed_in, PlaysHandedIn, hand_instead, plays_handed_in, good_handed_in, values_few}
 use Rattle.kit.specs.Spelling.{Spells}
 use Rattle.kit.specs.SpellingLaws.{words_cons}
-use Rattle.play_lines.specs.Taken.{text_taken, text_taken_lem, text-handed-in}
+use Rattle.play_lines.specs.Taken.{text_taken}
+use Rattle.play_lines.proofs.TakenLaws.{text_taken_lem, text_handed_in}
 use Rattle.play_text.specs.Printed.{printed_text}
 use Rattle.play_text.specs.PlayTheorem.{play_printed}
-use Rattle.play_text.specs.Edits.{bytes_of, EntryWords, instead-words}
+use Rattle.play_text.specs.Edits.{bytes_of, EntryWords, instead_words}
 
 -- kit₁ is kit with the hand put in at place n: its bytes spell a good kit, it plays as kit does up to there, and there the hand is taken
 pub record OneHandIn (kit kit₁ : Kit) (n number gap to : ℕ) : Type 0 where
@@ -53,7 +54,7 @@ module _ {kit : Kit} {n number gap p q to : ℕ} (s : Spells (bytes_of kit) kit)
   spells_handed_in =
       let good : GoodKit kit₁ = good_handed_in s.good c in
       let fresh = each_first EntryWords (handing gap p q to []) [] hand_words (each_none EntryWords) in
-      record { good = good; words = instead-words (hand_instead s.good c) s.words fresh good.event_count; same = refl }
+      record { good = good; words = instead_words (hand_instead s.good c) s.words fresh good.event_count; same = refl }
 
   one_hand_in : OneHandIn kit kit₁ n number gap to
   one_hand_in =
@@ -61,7 +62,7 @@ module _ {kit : Kit} {n number gap p q to : ℕ} (s : Spells (bytes_of kit) kit)
       record {
         spells = spells_handed_in;
         plays = plays;
-        prints = play_printed (bytes_of kit₁) kit₁ spells_handed_in ∙ text-handed-in plays c.place;
+        prints = play_printed (bytes_of kit₁) kit₁ spells_handed_in ∙ text_handed_in plays c.place;
       }
 
 pub built_is_believed : (kit : Kit) → Spells (bytes_of kit) kit → BuiltIsBelieved kit

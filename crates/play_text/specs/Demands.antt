@@ -8,13 +8,12 @@ use Rattle.terms.specs.ListLaws.{nth_in}
 use Rattle.terms.specs.Kit.{Kit, Entry}
 use Rattle.terms.specs.Numbers.{answer_number, kit_number_of}
 use Rattle.terms.specs.declared.Answer.{Answer}
-use Rattle.terms.specs.declared.Answer.TheVariants as Answer
 use Rattle.terms.specs.declared.KitAnswer.TheVariants.{Accepted}
 use Rattle.rules.specs.Clock.{tick}
 use Rattle.rules.specs.Play.{after, step, answer}
-use Rattle.rules.specs.Laws.Growth.{after_suc}
-use Rattle.rules.specs.Laws.Refused.{Ticked, tick_ticked, refused_is_ticked}
-use Rattle.rules.specs.Agreement.Theorem.{SettledListsAgree, settled_lists_agree}
+use Rattle.rules.proofs.Laws.Growth.{after_suc}
+use Rattle.rules.proofs.Laws.Refused.{Ticked, tick_ticked, refused_is_ticked}
+use Rattle.rules.proofs.Agreement.Theorem.{SettledListsAgree, settled_lists_agree}
 use Rattle.number.specs.Number.{Bytes}
 use Rattle.kit.specs.Reader.{check_of, kit_of, settings_in}
 use Rattle.kit.specs.Spelling.{Spells}

@@ -8,14 +8,16 @@ use Rattle.terms.specs.Limits.{ticks_max, events_max}
 use Rattle.terms.specs.Lists.{nth}
 use Rattle.terms.specs.ListLaws.{no_way}
 use Rattle.terms.specs.Kit.{Kit, Entry, GoodKit, kit_numbers, entry_numbers}
-use Rattle.rules.specs.Laws.Settings.{same_table}
-use Rattle.rules.specs.Laws.Idle.{idle}
-use Rattle.rules.specs.Laws.Instead.{with_events, Instead, back, replace, same_settings, each_none, each_first, instead_each}
-use Rattle.rules.specs.Laws.IdleEdits.{OneIdleLess, joined, left_out, join, cut, take_out, put_in, PlaysWithout, plays_without, one_event_less, good_together}
+use Rattle.rules.proofs.Laws.Settings.{same_table}
+use Rattle.rules.proofs.Laws.Idle.{idle}
+use Rattle.rules.proofs.Laws.Instead.{with_events, Instead, back, replace, same_settings, each_none, each_first, instead_each}
+use Rattle.rules.proofs.Laws.IdleEdits.{OneIdleLess, joined, left_out, join, cut, take_out, put_in, PlaysWithout, one_event_less, good_together}
+use Rattle.rules.proofs.Laws.IdlePlays.{plays_without}
 use Rattle.kit.specs.Spelling.{spellings, Words, Spells}
 use Rattle.kit.specs.SpellingLaws.{words_cons}
-use Rattle.kit.specs.KitWords.{EventWords, event_words, other-words}
-use Rattle.play_lines.specs.Without.{text_with, text_without, text_with_lem, text_without_lem}
+use Rattle.kit.specs.KitWords.{EventWords, event_words, other_words}
+use Rattle.play_lines.specs.Without.{text_with, text_without}
+use Rattle.play_lines.proofs.WithoutLaws.{text_with_lem, text_without_lem}
 use Rattle.play_text.specs.Printed.{printed_text}
 use Rattle.play_text.specs.PlayTheorem.{play_printed}
 
@@ -50,25 +52,25 @@ EntryWords e = Words (entry_numbers e)
 idle_words : (gap : ℕ) → gap ≤ ticks_max → EntryWords (idle gap)
 idle_words gap few = words_cons gap (6 ∷ []) (omega arith) (words_cons 6 [] (omega arith) (λ i n at. no_way (cc)))
 
-pub instead-words
+pub instead_words
     : {n : ℕ} {old new : List Entry} {kit kit₁ : Kit} → Instead n old new kit kit₁ → Words (kit_numbers kit) → EventWords new
     → length kit₁.events ≤ events_max → Words (kit_numbers kit₁)
 unfolding with_events same_table
-instead-words {kit} {kit₁} i words fresh few =
+instead_words {kit} {kit₁} i words fresh few =
     let all = instead_each i EntryWords (event_words kit words) fresh in
-    rw (same_settings i) (other-words kit words kit₁.events (omega arith) all)
+    rw (same_settings i) (other_words kit words kit₁.events (omega arith) all)
 
 less_words : {n : ℕ} {kit kit₁ : Kit} → OneIdleLess n kit kit₁ → Spells (bytes_of kit) kit → GoodKit kit₁ → Words (kit_numbers kit₁)
 less_words (joined a b few i) s good =
-    instead-words i s.words (each_first EntryWords (idle (a + b)) [] (idle_words (a + b) few) (each_none EntryWords)) good.event_count
-less_words (left_out i) s good = instead-words i s.words (each_none EntryWords) good.event_count
+    instead_words i s.words (each_first EntryWords (idle (a + b)) [] (idle_words (a + b) few) (each_none EntryWords)) good.event_count
+less_words (left_out i) s good = instead_words i s.words (each_none EntryWords) good.event_count
 
 more_words : {n : ℕ} {kit kit₁ : Kit} → OneIdleLess n kit kit₁ → Spells (bytes_of kit₁) kit₁ → GoodKit kit → Words (kit_numbers kit)
 more_words (joined a b few i) s good =
     let second = each_first EntryWords (idle b) [] (idle_words b (omega arith)) (each_none EntryWords) in
-    instead-words (back i) s.words (each_first EntryWords (idle a) (idle b ∷ []) (idle_words a (omega arith)) second) good.event_count
+    instead_words (back i) s.words (each_first EntryWords (idle a) (idle b ∷ []) (idle_words a (omega arith)) second) good.event_count
 more_words (left_out i) s good =
-    instead-words (back i) s.words (each_first EntryWords (idle 0) [] (idle_words 0 (omega arith)) (each_none EntryWords)) good.event_count
+    instead_words (back i) s.words (each_first EntryWords (idle 0) [] (idle_words 0 (omega arith)) (each_none EntryWords)) good.event_count
 
 -- ---- the edits
 

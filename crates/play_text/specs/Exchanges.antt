@@ -7,18 +7,19 @@ use Rattle.std.proofs.Math.Option.{some}
 use Rattle.terms.specs.Lists.{nth}
 use Rattle.terms.specs.Kit.{Kit, Entry, GoodKit, kit_numbers}
 use Rattle.rules.specs.Play.{after, answer}
-use Rattle.rules.specs.Laws.Instead.{replace, first_stands, second_stands, each_none, each_first}
+use Rattle.rules.proofs.Laws.Instead.{replace, first_stands, second_stands, each_none, each_first}
 use Rattle.rules.specs.Deliver.{Delivery}
-use Rattle.rules.specs.Laws.Order.{delivery, is_issued}
-use Rattle.rules.specs.Laws.Exchange.{Exchanged, exchange, exchanged_good, PlaysExchanged, plays_exchanged}
+use Rattle.rules.proofs.Laws.Order.{delivery, is_issued}
+use Rattle.rules.proofs.Laws.Exchange.{Exchanged, exchange, exchanged_good, PlaysExchanged, plays_exchanged}
 use Rattle.kit.specs.Spelling.{Words, Spells}
 use Rattle.kit.specs.SpellingLaws.{words_cons}
 use Rattle.kit.specs.KitWords.{EventWords, event_words}
 use Rattle.play_lines.specs.PlayText.{text_of_play}
-use Rattle.play_lines.specs.Exchanged.{text_exchanged, text_exchanged_lem, text_same}
+use Rattle.play_lines.specs.Exchanged.{text_exchanged}
+use Rattle.play_lines.proofs.ExchangedLaws.{text_exchanged_lem, text_same}
 use Rattle.play_text.specs.Printed.{printed_text}
 use Rattle.play_text.specs.PlayTheorem.{play_printed}
-use Rattle.play_text.specs.Edits.{bytes_of, EntryWords, instead-words}
+use Rattle.play_text.specs.Edits.{bytes_of, EntryWords, instead_words}
 
 -- kit₁ is kit with the deliveries at places n and n+1 exchanged: its bytes spell a good kit, and it plays and prints as kit does but for those two
 pub record OneExchange (n : ℕ) (kit kit₁ : Kit) : Type 0 where
@@ -43,7 +44,7 @@ exchanged_words {n} {kit} {kit₁} x s good =
     let behind = gap_words x.first x.gap (delivery 0 x.second) one two in
     let fresh : EventWords (delivery x.gap x.second ∷ delivery 0 x.first ∷ []) =
     each_first EntryWords _ (delivery 0 x.first ∷ []) front (each_first EntryWords _ [] behind (each_none EntryWords)) in
-    instead-words x.instead s.words fresh good.event_count
+    instead_words x.instead s.words fresh good.event_count
 
 -- ---- the exchange
 

@@ -9,7 +9,7 @@ use Rattle.kit.specs.Spelling.{Spells}
 use Rattle.kit.specs.Cursor.{opened, spells_accepted}
 use Rattle.played.specs.declared.View.TheVariants.{Play}
 use Rattle.played.specs.Views.{view_text}
-use Rattle.played.specs.ViewsLaws.{view_printed}
+use Rattle.played.proofs.ViewsLaws.{view_printed}
 use Rattle.play_lines.specs.PlayText.{text_of_play}
 use Rattle.play_text.specs.Printed.{printed_text}
 

@@ -1,5 +1,8 @@
 // The printed play of a kit's bytes, in a lent buffer. What no longer fits is left out, and the place that is given back is then the
 // buffer's end: a text that ends before it is whole.
+
+#![tactic(auto)]
+
 ghost use Rattle.text.specs.Text.{Lays};
 ghost use Rattle.play_lines.specs.Whole.{Counts};
 ghost use Rattle.play_text.specs.Printed.{printed_text, program_text};

@@ -8,7 +8,7 @@ use Rattle.player.specs.Turn.{Left}
 use Rattle.player.specs.Plays.{played_from}
 use Rattle.play_lines.specs.PlayLines.{lines_of_play}
 use Rattle.play_lines.specs.PlayText.{text_after}
-use Rattle.room_lines.specs.RoomLines.{roomLines}
+use Rattle.room_lines.specs.RoomLines.{lines_of_room}
 use Rattle.room_lines.specs.RoomText.{text_of_room}
 use Rattle.played.specs.declared.View.{View}
 use Rattle.played.specs.declared.View.TheVariants.{Play, Room}
@@ -18,7 +18,7 @@ abbrev pub view_lines : View → Roles → List ℕ → ℕ → Left → List �
 view_lines Play roles table n o =
     lines_of_play o.clocks o.answers n o.parts.desk o.parts.replicas roles table o.parts.heads o.parts.lists o.parts.issued
 view_lines Room roles table n o =
-    roomLines o.answers n o.parts.desk o.parts.replicas roles table o.parts.requests o.parts.ticks o.parts.heads
+    lines_of_room o.answers n o.parts.desk o.parts.replicas roles table o.parts.requests o.parts.ticks o.parts.heads
     o.parts.lists o.parts.ledger o.parts.issued
 
 -- the first n events of a kit with these settings

@@ -1,5 +1,8 @@
 // The first events of a kit, played from a fresh room, and what they came to as text in a lent buffer: the play, or the room. What no longer
 // fits is left out, and the place that is given back is then the buffer's end: a text that ends before it is whole.
+
+#![tactic(auto)]
+
 ghost use Rattle.text.specs.Text.{Lays};
 ghost use Rattle.played.specs.Views.{view_text};
 
@@ -7,7 +10,7 @@ use kit::Settings;
 use terms::{EVENTS, HISTORIES, REQUESTS};
 
 // What is put of a play: the lines of its events, replicas and late tick; or the room that it came to.
-#[derive(Drop)]
+#[derive(Clone, Copy)]
 pub enum View {
     Play,
     Room,

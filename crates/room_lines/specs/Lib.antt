@@ -2,4 +2,3 @@ pub mod PieceLaws
 pub mod Pieces
 pub mod RoomLines
 pub mod RoomText
-pub mod RoomTextLaws

@@ -1,10 +1,8 @@
 -- Laws of Pieces: lists from a place on, entries from one on, numbered lists as lines. Assumes nothing.
-use Rattle.std.specs.Prelude.{◌≡◌, refl, Bool, not, ◌||◌, List, [], ◌∷◌, ◌++◌, length, get_or, drop, eqb}
+use Rattle.std.specs.Prelude.{◌≡◌, refl, Bool, not, ◌||◌, List, [], ◌∷◌, ◌++◌, length, get_or, drop, eqb, ℕ, zero, suc, ◌+◌, ◌-◌, ◌≤◌, ◌<◌}
+use Rattle.std.proofs.Common.{arith, drop_of_length-le, drop-cons}
 use Rattle.std.proofs.Math.Option.{some}
-use Prim.Native.Nat.{ℕ, zero, suc, ◌+◌, ◌-◌, ◌≤◌, ◌<◌}
 use Rattle.std.proofs.Math.Numerals.{add-one}
-use native.Mathlib.Omega.{arith}
-use Rattle.std.proofs.Common.{drop_of_length-le, drop-cons}
 use Rattle.terms.specs.Lists.{pick, nth}
 use Rattle.text.specs.Text.{decimal}
 use Rattle.play_lines.specs.Lines.{lines_from}

@@ -1,11 +1,10 @@
--- The lines that show a room, from the parts that the player keeps, whatever is in them. Laws: RoomTextLaws, where the parts are a room's
+-- The lines that show a room, from the parts that the player keeps, whatever is in them. Laws: RoomTextLaws, in proofs/, where the parts are a room's
 -- of the rules. Assumes nothing.
 use Rattle.std.specs.Prelude.{true, List, [], ◌++◌, ℕ, suc, ◌-◌, min, get_or, take, eqb, ltb}
 use Rattle.terms.specs.Limits.{replicas_max, ag, up, sw, places_max, requests_max, histories_max, events_max}
 use Rattle.terms.specs.Lent.{Table, Requests, Ticks, Heads, Lists, Answers}
 use Rattle.terms.specs.Lists.{pick}
 use Rattle.terms.specs.declared.ContentChoice.{ContentChoice}
-use Rattle.terms.specs.declared.ContentChoice.TheVariants as ContentChoice
 use Rattle.text.specs.Text.{decimal}
 use Rattle.ledger.specs.Ledger.{total_of, look_up, Ledger, Issued}
 use Rattle.replica.specs.declared.Replica.{Replica}
@@ -93,9 +92,9 @@ replica_lines replicas roles table heads lists issued =
 -- ---- the whole
 
 -- the room after n events
-unfoldable pub roomLines
+unfoldable pub lines_of_room
     : Answers → ℕ → Desk → List Replica → Roles → Table → Requests → Ticks → Heads → Lists → Ledger → Issued → List ℕ
-roomLines answers n desk replicas roles table requests ticks heads lists ledger issued =
+lines_of_room answers n desk replicas roles table requests ticks heads lists ledger issued =
     event_text n desk.clock (answer_in answers n) desk.late desk.due
     ++ (submitted_line requests ticks desk.submitted
     ++ (history_lines heads lists desk.histories

@@ -1,5 +1,5 @@
 -- The room after n events as the rules say it: the clock, the answer and the late tick; the submissions; the filed histories; what each
--- counter has issued; and each replica's record with what it has settled. Laws: RoomTextLaws. Assumes nothing.
+-- counter has issued; and each replica's record with what it has settled. Laws: RoomTextLaws, in proofs/. Assumes nothing.
 use Rattle.std.specs.Prelude.{true, List, ◌++◌, ℕ, zero, suc, ◌/◌, ◌%◌, length, get_or}
 use Rattle.terms.specs.Limits.{names, ag, up, sw}
 use Rattle.terms.specs.Lists.{pick, is_some}

@@ -1,11 +1,13 @@
 // The room after some events as text, in a lent buffer: the event, submissions, histories, counters, replicas. What no longer fits is left
 // out, and the place that is given back is then the buffer's end: a text that ends before it is whole.
+#![tactic(auto)]
+
 ghost use Rattle.std.specs.Prelude.{◌≡◌, true, false, not, ◌||◌, [], ◌∷◌, ◌++◌, take, drop, get_or, eqb, ◌+◌, ◌<◌};
 ghost use Rattle.terms.specs.Limits.{counters, places_max};
 ghost use Rattle.terms.specs.Lists.{pick};
 ghost use Rattle.text.specs.Text.{Lays};
 ghost use Rattle.room_lines.specs.Pieces.{commas, listed, clock_text, event_text, submission_text, history_text, parts_text, content_text, held_text, entry_text, entries_from, accepted_text, opening_text};
-ghost use Rattle.room_lines.specs.RoomLines.{answer_in, submissions_in, submitted_line, history_lines, choice_text, contents_in, counter_line, counters_at, counter_lines, kept_in, record_line, replica_line, replica_lines, roomLines};
+ghost use Rattle.room_lines.specs.RoomLines.{answer_in, submissions_in, submitted_line, history_lines, choice_text, contents_in, counter_line, counters_at, counter_lines, kept_in, record_line, replica_line, replica_lines, lines_of_room};
 
 use ledger::{Issued, Ledger};
 use replica::{Replica, Replicas};
@@ -465,7 +467,7 @@ pub fn put_room(
     ledger: &Ledger,
     issued: &Issued,
 ) -> usize
-    ensures { Lays out.old 0 (roomLines answers.now n desk replicas roles table.now requests.now ticks.now heads.now lists.now ledger.now issued.now) result out.new }
+    ensures { Lays out.old 0 (lines_of_room answers.now n desk replicas roles table.now requests.now ticks.now heads.now lists.now ledger.now issued.now) result out.new }
 {
     let a = put_event(out, 0, answers, n, desk.clock, desk.late, desk.due);
     let b = put_submitted(out, a, requests, ticks, desk.submitted);

@@ -1,5 +1,5 @@
 -- Laws of Asked: a word from one of its bytes on, and numbers that are cut off at a bound. Assumes nothing.
-use Rattle.std.specs.Prelude.{◌≡◌, true, ◌&&◌, List, [], ◌∷◌, ℕ, ◌+◌, ◌-◌, ◌≤◌, ◌<◌, min, length, get_or, drop}
+use Rattle.std.specs.Prelude.{◌≡◌, true, ◌&&◌, List, [], ◌∷◌, ℕ, ◌+◌, ◌≤◌, ◌<◌, min, length, get_or, drop}
 use Rattle.std.proofs.Common.{sym, ap, ◌∙◌, add-one, arith, drop_of_length-le, drop-cons}
 use Rattle.terms.specs.Lists.{all_of}
 use Rattle.room_text.specs.Asked.{is_digit, with_digit, with_digits, asked_max}

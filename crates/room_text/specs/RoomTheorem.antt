@@ -1,21 +1,19 @@
 -- Demand 2 over the printed room: of bytes that spell a kit, and n at most its events, the text is the room that the rules have after n
 -- events; past the last event it says how many there are; of all other bytes it is `kit` and the number of the first fault. Assumes nothing.
 use Rattle.std.specs.Prelude.{◌≡◌, refl, false, List, ℕ, ◌≤◌, ◌<◌, min, length, eqb, ltb}
-use Rattle.std.proofs.Common.{ap, ◌∙◌, arith}
-use borrow.Author.Tests.{ne_eqb, eqb-true, lt-ltb, le-ltb, ltb-true, ltb-false}
+use Rattle.std.proofs.Common.{ap, ◌∙◌, arith, ne_eqb, eqb-true, lt-ltb, le-ltb, ltb-true, ltb-false}
 use Rattle.terms.specs.Limits.{events_max, bytes_max}
 use Rattle.terms.specs.ListLaws.{split}
 use Rattle.terms.specs.Kit.{Kit}
 use Rattle.terms.specs.Numbers.{kit_number_of}
 use Rattle.terms.specs.declared.KitAnswer.{KitAnswer}
-use Rattle.terms.specs.declared.KitAnswer.TheVariants as KitAnswer
 use Rattle.number.specs.Number.{Bytes}
 use Rattle.kit.specs.Reader.{check_of, kit_of, settings_in}
 use Rattle.kit.specs.Spelling.{Spells}
 use Rattle.kit.specs.Cursor.{opened, accepted_spells, spells_accepted}
 use Rattle.play_lines.specs.Lines.{kit_line}
 use Rattle.played.specs.declared.View.TheVariants.{Room}
-use Rattle.played.specs.ViewsLaws.{view_printed}
+use Rattle.played.proofs.ViewsLaws.{view_printed}
 use Rattle.room_lines.specs.RoomText.{text_of_room}
 use Rattle.room_text.specs.Asked.{asked_max}
 use Rattle.room_text.specs.RoomPrinted.{past_text, moment_text, printed_room, input_room, program_room}

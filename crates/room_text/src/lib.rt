@@ -1,5 +1,8 @@
 // The room after the first events of a kit, as text in a lent buffer. What no longer fits is left out, and the place that is given back is
 // then the buffer's end: a text that ends before it is whole.
+
+#![tactic(auto)]
+
 ghost use Rattle.std.specs.Prelude.{◌≡◌, ◌-◌, ◌≤◌, min};
 ghost use Rattle.text.specs.Text.{Lays};
 ghost use Rattle.play_lines.specs.Whole.{Counts};

@@ -1,9 +1,12 @@
 // Text put into a lent buffer at a place: bytes, words and decimals. What no longer fits is left out, and the place then stays at the
 // buffer's end, so that a text that ends before it is whole.
+#![tactic(auto)]
+
 ghost use Rattle.std.specs.Prelude.{◌≡◌, [], ◌∷◌, ◌+◌, ◌%◌};
 ghost use Rattle.text.specs.Text.{Lays, decimal_in, decimal};
 
 // One byte.
+#[tactic(auto, unfolding(crate::specs::Text::laid))]
 pub fn put_byte(out: &mut [u8], at: usize, byte: u8) -> usize
     ensures { Lays out.old at (byte ∷ []) result out.new }
 {
@@ -49,6 +52,7 @@ fn put_digits(out: &mut [u8], at: usize, n: u64, most: usize) -> usize
 }
 
 // A number in decimal, with no zero in front.
+#[tactic(auto, unfolding(crate::specs::Text::decimal))]
 pub fn put_decimal(out: &mut [u8], at: usize, n: u64) -> usize
     ensures { Lays out.old at (decimal n) result out.new }
 {

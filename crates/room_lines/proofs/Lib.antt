@@ -1,0 +1,2 @@
+-- What is proved of the texts that RoomText defines. Assumes nothing.
+pub mod RoomTextLaws
