@@ -1,46 +1,47 @@
 // Asks `terms::holds` what a text asks. A line that starts with # is a title, and is printed as it stands. A line that starts with `list`
 // has the list of the questions after it, at most 64 requests; every place behind them is 0. Any other line is a question, a count and a
 // request: whether the first so many of the list hold it. It is printed with its answer, yes or no. Numbers are decimal.
-use libc::{STDIN_FILENO, STDOUT_FILENO};
+#![tactic(auto)]
 
-fn main() {
-    let mut text = io::large_buffer();
-    let n = io::read_full(STDIN_FILENO, &mut text);
-    take_lines(&text[..n]);
+use std::io;
+
+fn main(rt: HostRuntime) -> io::Result<()> {
+    let mut text = [0u8; 65536];
+    let n = stream::read_full(&mut rt.stdin(), &mut text)?;
+    take_lines(&rt, &text[..n])
 }
 
 // Takes the lines one by one; each ends with its line end.
-fn take_lines(text: &[u8]) {
+fn take_lines(rt: &impl Print, text: &[u8]) -> io::Result<()> {
     let mut list = [0u32; 64];
     let mut start: usize = 0;
     let mut i: usize = 0;
     while i < text.len() {
         if text[i] == b'\n' {
-            take_line(&text[start..i], &mut list);
+            take_line(rt, &text[start..i], &mut list)?;
             i = i + 1;
             start = i;
         } else {
             i = i + 1;
         }
     }
+    Ok(())
 }
 
 // What a line does.
-fn take_line(line: &[u8], list: &mut [u32; 64]) {
+fn take_line(rt: &impl Print, line: &[u8], list: &mut [u32; 64]) -> io::Result<()> {
     if line.len() == 0 {
-        io::write_all(STDOUT_FILENO, b"\n");
-        return;
+        return rt.write_all(b"\n");
     }
     if line[0] == b'#' {
-        io::write_all(STDOUT_FILENO, line);
-        io::write_all(STDOUT_FILENO, b"\n");
-        return;
+        rt.write_all(line)?;
+        return rt.write_all(b"\n");
     }
     if line[0] == b'l' {
         fill(list, line);
-        return;
+        return Ok(());
     }
-    ask(list, line);
+    ask(rt, list, line)
 }
 
 // The list is the numbers of a line.
@@ -56,17 +57,16 @@ fn fill(list: &mut [u32; 64], line: &[u8]) {
 }
 
 // Prints a question with its answer.
-fn ask(list: &[u32; 64], line: &[u8]) {
+fn ask(rt: &impl Print, list: &[u32; 64], line: &[u8]) -> io::Result<()> {
     let count = read_decimal(line, 0);
     let asked = read_decimal(line, count.next);
     let request = request_of(asked.value);
-    io::print_decimal(STDOUT_FILENO, count.value as u64);
-    io::write_all(STDOUT_FILENO, b" ");
-    io::print_decimal(STDOUT_FILENO, request as u64);
-    if terms::holds(list, count.value, request) {
-        io::write_all(STDOUT_FILENO, b" yes\n");
+    let first = count.value;
+    print!(rt; "{first} {request}")?;
+    if terms::holds(list, first, request) {
+        rt.write_all(b" yes\n")
     } else {
-        io::write_all(STDOUT_FILENO, b" no\n");
+        rt.write_all(b" no\n")
     }
 }
 

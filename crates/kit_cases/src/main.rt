@@ -1,34 +1,44 @@
 // Prints the kit number of each file that its arguments name, and the name.
-use libc::STDOUT_FILENO;
+#![tactic(auto)]
 
-fn main() {
-    let count = os::arg_count();
-    let mut i: usize = 1;
-    while i < count {
-        judge_file(i);
-        i = i + 1;
+use std::env::{Env, FillError};
+use std::rt::Files;
+use std::{fs, io};
+
+// An argument that is longer than its buffer reads as an empty one, which names no file.
+fn main(rt: HostRuntime) -> io::Result<()> {
+    let mut word = [0u8; 4095];
+    for i in 1..usize::MAX {
+        match rt.arg(i, &mut word) {
+            Ok(length) => judge_named(&rt, &word[..length])?,
+            Err(FillError::TooLong) => judge_named(&rt, b"")?,
+            Err(FillError::NotPresent) => return Ok(()),
+        }
+    }
+    Ok(())
+}
+
+// Files are opened by names in UTF-8 alone.
+fn judge_named(rt: &(impl Files + Print + Eprint), name: &[u8]) -> io::Result<()> {
+    match str::from_utf8(name) {
+        Ok(name) => judge_file(rt, name),
+        Err(_) => eprintln!(rt; "a file's name is not UTF-8"),
     }
 }
 
 // The kits here are shorter than the buffer.
-fn judge_file(i: usize) {
-    let mut name = io::buffer();
-    let length = os::arg(i, &mut name);
-    let fd = os::open_read(&name[..length]);
-    if fd < 0 {
-        os::fail(&name[..length]);
-        return;
-    }
-    let mut bytes = io::buffer();
-    let n = io::read_full(fd, &mut bytes);
-    libc::close(fd);
-    print_number(&bytes[..n]);
-    io::write_all(STDOUT_FILENO, &name[..length]);
-    io::write_all(STDOUT_FILENO, b"\n");
+fn judge_file(rt: &(impl Files + Print + Eprint), name: &str) -> io::Result<()> {
+    let mut file = match fs::open(rt, name) {
+        Ok(file) => file,
+        Err(error) => return eprintln!(rt; "{name}: {error}"),
+    };
+    let mut bytes = [0u8; 4096];
+    let n = stream::read_full(&mut file, &mut bytes)?;
+    print_number(rt, &bytes[..n])?;
+    println!(rt; "{name}")
 }
 
-fn print_number(kit: &[u8]) {
+fn print_number(rt: &impl Print, kit: &[u8]) -> io::Result<()> {
     let number = terms::number_of_kit(kit::check(kit));
-    io::print_decimal(STDOUT_FILENO, number as u64);
-    io::write_all(STDOUT_FILENO, b" ");
+    print!(rt; "{number} ")
 }

@@ -1,66 +1,69 @@
 // Plays the kits of a text. A line that starts with # is a title, and is printed as it stands. The other lines have a kit's bytes, each as
 // two hexadecimal digits; an empty line ends the kit, and its play is printed, with an empty line after it.
+#![tactic(auto)]
+
 ghost use Rattle.std.specs.Prelude.{◌≡◌};
 ghost use Rattle.text.specs.Text.{Lays};
 ghost use Rattle.kit_plays.specs.Hex.{digit_of, pair_bytes, waiting, hex_from};
 
-use libc::{STDIN_FILENO, STDOUT_FILENO};
+use std::io;
 
-fn main() {
-    let mut text = io::large_buffer();
-    let n = io::read_full(STDIN_FILENO, &mut text);
-    play_kits(&text[..n]);
+fn main(rt: HostRuntime) -> io::Result<()> {
+    let mut text = [0u8; 65536];
+    let n = stream::read_full(&mut rt.stdin(), &mut text)?;
+    play_kits(&rt, &text[..n])
 }
 
 // Takes the lines one by one; the last kit needs no empty line.
-fn play_kits(text: &[u8]) {
+fn play_kits(rt: &impl Print, text: &[u8]) -> io::Result<()> {
     let mut kit = [0u8; 8192];
     let mut count: usize = 0;
     let mut start: usize = 0;
     let mut i: usize = 0;
     while i < text.len() {
         if text[i] == b'\n' {
-            count = take_line(&text[start..i], &mut kit, count);
+            count = take_line(rt, &text[start..i], &mut kit, count)?;
             i = i + 1;
             start = i;
         } else {
             i = i + 1;
         }
     }
-    play_kit(&kit, count);
+    play_kit(rt, &kit, count)
 }
 
 // What a line does: the answer is how many bytes the kit then has.
-fn take_line(line: &[u8], kit: &mut [u8], count: usize) -> usize {
+fn take_line(rt: &impl Print, line: &[u8], kit: &mut [u8], count: usize) -> io::Result<usize> {
     if line.len() == 0 {
-        play_kit(kit, count);
-        return 0;
+        play_kit(rt, kit, count)?;
+        return Ok(0);
     }
     if line[0] == b'#' {
-        io::write_all(STDOUT_FILENO, line);
-        io::write_all(STDOUT_FILENO, b"\n");
-        return count;
+        rt.write_all(line)?;
+        rt.write_all(b"\n")?;
+        return Ok(count);
     }
-    put_hex(kit, count, line)
+    Ok(put_hex(kit, count, line))
 }
 
 // Prints the play of the first bytes, if there are any.
-fn play_kit(kit: &[u8], count: usize) {
+fn play_kit(rt: &impl Print, kit: &[u8], count: usize) -> io::Result<()> {
     if count == 0 {
-        return;
+        return Ok(());
     }
     if kit.len() < count {
-        return;
+        return Ok(());
     }
     let mut out = [0u8; 131072];
     let end = play_text::printed_play(&kit[..count], &mut out);
-    io::write_all(STDOUT_FILENO, &out[..end]);
-    io::write_all(STDOUT_FILENO, b"\n");
+    rt.write_all(&out[..end])?;
+    rt.write_all(b"\n")
 }
 
 // ---- hexadecimal digits
 
 // A digit's value; 16 for what is none of 0 to 9 and A to F.
+#[tactic(auto, unfolding(crate::specs::Hex::digit_of))]
 fn digit(c: u8) -> u8
     ensures { result ≡ digit_of c }
 {
@@ -80,6 +83,7 @@ fn digit(c: u8) -> u8
 }
 
 // The digit that waits for another after digit d, where `high` waited before; 16 for none.
+#[tactic(auto, unfolding(crate::specs::Hex::waiting))]
 fn next_waiting(high: u8, d: u8) -> u8
     ensures { result ≡ waiting high d }
 {
@@ -93,6 +97,7 @@ fn next_waiting(high: u8, d: u8) -> u8
 }
 
 // Puts a byte where digit d is its second one.
+#[tactic(auto, unfolding(crate::specs::Hex::pair_bytes), using(text::specs::TextLaws::lays_none))]
 fn put_pair(out: &mut [u8], at: usize, high: u8, d: u8) -> usize
     ensures { Lays out.old at (pair_bytes high d) result out.new }
 {

@@ -1,5 +1,10 @@
 // The program: a kit on standard input, and as its first argument how many events are played; the room after them on standard output.
-use libc::{STDIN_FILENO, STDOUT_FILENO};
+#![tactic(auto)]
+
+ghost use Rattle.std.specs.Prelude.{◌≤◌, length, IfSome};
+
+use std::env::{Env, FillError};
+use std::io;
 
 // One byte more than a kit may have is read, so that a longer one is known as such, and the room is written at once. An argument that is
 // longer than its buffer reads as an empty one, which is no number. The buffer of the room is long enough for every one. The first line has
@@ -8,13 +13,28 @@ use libc::{STDIN_FILENO, STDOUT_FILENO};
 // stands between them. Of 21 counters each has at most 2,316: `counter`, replica, name, and 96 times a space, a digit and two numbers of
 // ten digits with two colons. Of seven replicas each has at most 2,341: three lists of 64 requests, 21 accepted values of two digits, and
 // words. Together these are 72,453.
-fn main() {
-    let given = 1 < os::arg_count();
-    let mut word = io::buffer();
-    let length = os::arg(1, &mut word);
+fn main(rt: HostRuntime) -> io::Result<()> {
+    let mut word = [0u8; 4095];
+    let length = first_argument(&rt, &mut word);
     let mut bytes = [0u8; 65537];
-    let n = io::read_full(STDIN_FILENO, &mut bytes);
+    let n = stream::read_full(&mut rt.stdin(), &mut bytes)?;
     let mut out = [0u8; 131072];
-    let end = room_text::room_input(&bytes[..n], given, &word[..length], &mut out);
-    io::write_all(STDOUT_FILENO, &out[..end]);
+    let end = room_text::room_input(
+        &bytes[..n],
+        length.is_some(),
+        &word[..length.unwrap_or(0)],
+        &mut out,
+    );
+    rt.write_all(&out[..end])
+}
+
+// How many bytes of the first argument stand at the start of `word`: none where it is longer than that. `None` where there is no argument.
+fn first_argument(rt: &impl Env, word: &mut [u8]) -> Option<usize>
+    ensures { IfSome result (λ n. n ≤ length word.new) }
+{
+    match rt.arg(1, word) {
+        Ok(length) => Some(length),
+        Err(FillError::TooLong) => Some(0),
+        Err(FillError::NotPresent) => None,
+    }
 }

@@ -1,10 +1,7 @@
 -- A try goes on further on. Assumes nothing.
-use mathlib.Core.Path.{◌≡◌, refl}
-use mathlib.Core.List.{List}
-use Prim.Native.Nat.{ℕ, ◌<◌}
-use lib.ListN.{length}
+use Rattle.std.proofs.Common.{◌≡◌, refl, List, ℕ, ◌<◌, length}
 use Rattle.number.specs.Number.{number_at}
-use Rattle.number.specs.NumberLaws.{moves_on_lem}
+use Rattle.number.proofs.NumberLaws.{moves_on_lem}
 use Rattle.number.specs.declared.Found.{Found}
 use Rattle.number.specs.declared.Found.TheVariants.{Number, Cut, Bad}
 use Rattle.number_vectors.specs.Tries.{place_after}

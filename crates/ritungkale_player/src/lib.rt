@@ -1,5 +1,7 @@
 // The library as C and Rust call it, to read and to play: a handful of functions on lent slices, each a pointer and a length to them. None
 // asks anything of its caller but that memory is lent as C's and Rust's own rules say. Writing a kit and reading its numbers: crate `ritungkale_writer`.
+#![tactic(auto)]
+
 ghost use Rattle.std.specs.Prelude.{◌≡◌};
 ghost use Rattle.terms.specs.Numbers.{kit_number_of};
 ghost use Rattle.kit.specs.Reader.{check_of};
