@@ -3,9 +3,11 @@
 # takes some minutes.
 set -eu
 kit=${1:?usage: play.sh KIT [N]}
-here=$(cd "$(dirname "$0")" && pwd)
-program=kitplay
-[ $# -lt 2 ] || program=kitroom
-[ -x "$here/target/bin/$program" ] || (cd "$here" && rt check $program >&2)
+crates=$(cd "$(dirname "$0")" && pwd)/crates
+name=kitplay
+[ $# -lt 2 ] || name=kitroom
+program=$crates/$name/out/$name
+# (which also runs it, on nothing)
+[ -x "$program" ] || (cd "$crates/$name" && rt run >/dev/null </dev/null)
 shift
-exec "$here/tests/run.sh" "$here/target/bin/$program" "$@" < "$kit"
+exec "$program" "$@" < "$kit"

@@ -1,7 +1,7 @@
 #!/usr/bin/env bash
 # check.sh [N]: the model's own tests, then N kits (3000) through everything that is there to be held against the model:
-#   KITPLAY, KITROOM   the programs (or a script and a program, as "tests/run.sh target/bin/kitplay"), on one kit in 50
-#   KIT_LIBRARY        the library's archives for this machine (native_library.sh prints their paths), on every kit
+#   KITPLAY, KITROOM   the programs (crates/kitplay/out/kitplay), or a command, on one kit in 50
+#   KIT_LIBRARY        the library's archives (native_library.sh prints their paths), on every kit
 # and what the programs do when their input, output or argument misbehaves.
 set -euo pipefail
 kits=${1:-3000}

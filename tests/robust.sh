@@ -1,8 +1,8 @@
 #!/usr/bin/env bash
 # robust.sh [--room] COMMAND ..: what the program does when its input, its output or its argument misbehaves. The exit has to be clean (no
 # signal, no hang; a program whose reader went away may end by SIGPIPE), and what was printed has to be right as far as it goes.
-# COMMAND is kitplay's path, or a script and that path (`robust.sh tests/run.sh target/bin/kitplay`); with --room, kitroom's. The model says
-# what is right.
+# COMMAND is kitplay's path (`robust.sh ../crates/kitplay/out/kitplay`), or a script and that path; with --room, kitroom's. The model says what
+# is right.
 set -u
 says=model_play
 if [ "${1:-}" = --room ]; then says=model_room; shift; fi
@@ -16,7 +16,8 @@ model=$target/release/$says make=$target/release/make_kit
 room=$(mktemp -d) && trap 'rm -rf "$room"' EXIT
 failed=0 passed=0
 
-play() { timeout 60 "${command[@]}" "$@"; }
+# what it complains of is shown if something failed
+play() { timeout 60 "${command[@]}" "$@" 2>>"$room/complaints"; }
 
 # how the program ended is clean
 clean() { # NAME STATUS [also]
@@ -133,5 +134,6 @@ same "a slow reader" "$(cat "$room/status")" "$room/got" "$large"
 (ulimit -f 8; trap '' XFSZ; play <"$room/large.kit") >"$room/got" 2>/dev/null
 begins "a file that may not grow" $? "$room/got" "$large"
 
+[ "$failed" = 0 ] || cat "$room/complaints" >&2
 echo "$(basename "${command[-1]}"): $passed passed, $failed failed"
 [ "$failed" = 0 ]
