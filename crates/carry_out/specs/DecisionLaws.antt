@@ -2,7 +2,7 @@
 -- decision itself has tested. First what holds of any replica that acts (its record and the counters laid out, its condition, settling), then, in
 -- one module over the kit and the room, each decision: those on ag, those on up, those on sw, and what is entered (submissions, filed histories).
 -- The one law over all events: DoneLaws. Assumes nothing.
-use Rattle.std.specs.Prelude.{◌≡◌, refl, true, false, List, [], ◌∷◌, ◌++◌, ℕ, suc, ◌≤◌, ◌<◌, get_or, leb, ltb}
+use Rattle.std.specs.Prelude.{◌≡◌, refl, true, false, List, [], ◌∷◌, ◌++◌, ℕ, suc, ◌≤◌, ◌<◌, take, get_or, leb, ltb, Some, Ok, Err}
 use Rattle.std.proofs.Common.{◌∙◌, arith, lt-ltb}
 use Rattle.std.proofs.Math.Path.{ap}
 use Rattle.std.proofs.Math.Numerals.{add-one}
@@ -11,12 +11,12 @@ use borrow.Author.Tests.{lt-leb}
 use Rattle.terms.specs.Limits.{replicas_max, ag, up, sw, names, places_max, requests_max, histories_max}
 use Rattle.terms.specs.Lists.{pick, holds}
 use Rattle.terms.specs.ListLaws.{split, length-snoc, eqb_same}
-use Rattle.terms.specs.Padding.{pad, set_pad}
+use Rattle.terms.specs.Padding.{pad, take_pad, set_pad}
 use Rattle.terms.specs.Mark.{next_mark, mark_of}
 use Rattle.terms.specs.Kit.{Kit}
 use Rattle.terms.specs.declared.Content.{Content}
 use Rattle.terms.specs.declared.Condition.TheVariants.{Halted, Closed}
-use Rattle.terms.specs.declared.Answer.{Answer}
+use Rattle.terms.specs.declared.Refusal.{Refusal}
 use Rattle.rules.specs.Room.{Room, Filing, put1, with_replica, with_history, issue, remember, with_condition, with_mark, note, note_pair, accept, hold}
 use Rattle.rules.specs.Room as Rules
 use Rattle.rules.specs.Reading.{is_running, is_faulty, settled_count, held_list, ag_total}
@@ -24,23 +24,25 @@ use Rattle.rules.proofs.Laws.ReadingLaws.{running_correct}
 use Rattle.rules.specs.Submit.{after_submit, after_file}
 use Rattle.rules.specs.Deliver.{settle, after_prepare, after_commit, after_update, after_switch, switches, mark_of_pair}
 use Rattle.rules.specs.Switching.{missing, after_panic, built_list, after_build, after_hand}
+use Rattle.ledger.specs.LedgerLayout.{lay_book}
 use Rattle.ledger.specs.LedgerLaws.{total_laid, issue_laid}
 use Rattle.replica.specs.RecordLayout.{lay_replica}
 use Rattle.replica.specs.RecordLaws.{note_laid, note_pair_laid, accept_laid, halt_laid, hold_laid}
 use Rattle.terms.specs.declared.Act.TheVariants as Act
-use Rattle.terms.specs.declared.Decision.{Decision}
-use Rattle.terms.specs.declared.Decision.TheVariants.{Refuse, Submit, Issue, Idle, Build, File}
+use Rattle.terms.specs.Numbers.{Decision}
+use Rattle.terms.specs.declared.Deed.{Deed}
+use Rattle.terms.specs.declared.Deed.TheVariants.{Submit, Issue, Idle, Build, File}
 use Rattle.room.specs.Desk.{counted_on}
 use Rattle.rules.specs.Decide.{acted, carried_out}
-use Rattle.room.specs.Layout.{Parts, lay_room, lay_desk, lay_roles, lay_table, lay_heads, lay_lists}
-use Rattle.room.specs.LayoutLaws.{store_head, store_list, store_replica, keep_replica}
+use Rattle.room.specs.Layout.{Parts, lay_room, lay_submissions, lay_desk, lay_roles, history_of, lay_histories}
+use Rattle.room.specs.LayoutLaws.{store_history, store_replica, keep_replica}
 use Rattle.room.specs.GoodLaws.{size_max, leader_max}
 use Rattle.room.specs.Bounds.{Bounds}
 use Rattle.room.specs.BoundsLaws.{noting_fits, noted_submissions, built_fits}
-use Rattle.carry_out.specs.Enter.{row, built_row, submissions, filings, entered, store_request, file_on, enter_on}
+use Rattle.carry_out.specs.Enter.{built_on, entered, store_request, file_on, enter_on}
 use Rattle.carry_out.specs.Apply.{applied, settle_on, lead_on, prepare_on, commit_on, hand_on, build_on, act_on, apply_on}
 use Rattle.carry_out.specs.Done.{entering, acting, done_on}
-use Rattle.carry_out.specs.ApplyLaws.{Counters, lay_book, issued_more, built_laid, count_laid, pair_laid, switch_laid, settle_laid}
+use Rattle.carry_out.specs.ApplyLaws.{Counters, issued_more, built_laid, count_laid, pair_laid, switch_laid, settle_laid}
 
 -- ---- what replica `me` does
 
@@ -60,7 +62,7 @@ with_acts r g me p =
 
 acted_laid : (r : Room) (known : ℕ) (g : Counters) (me : ℕ) (p : Rules.Replica)
     → acting (lay_room r known) me (applied (lay_replica p) (lay_book g)) ≡ lay_room (with_acts r g me p) known
-unfolding lay_room lay_desk
+unfolding lay_room lay_submissions lay_desk
 acted_laid r known g me p = rw (store_replica r.replica me p)
 
 -- its record stays
@@ -73,7 +75,7 @@ stays_laid r known me below = rw (keep_replica r.replica me below)
 issued_laid : (r : Room) (known me x name : ℕ) (content : Content) → me < replicas_max
     → acting (lay_room r known) me (applied (lay_replica (r.replica me)) (lay_book (issued_more r.counter x name content)))
     ≡ lay_room (issue r x name content) known
-unfolding lay_room lay_desk issue
+unfolding lay_room lay_submissions lay_desk issue
 issued_laid r known me x name content below = rw (keep_replica r.replica me below)
 
 -- ---- what is read off a condition
@@ -101,7 +103,7 @@ module _ (kit : Kit) (r : Room) (known : ℕ) (b : Bounds kit r) (me : ℕ) (bel
   -- what is claimed of a decision
   abbrev pub Done : Decision → List ℕ → Type 0
   Done decision list =
-      done_on (lay_roles kit) (lay_table kit) (lay_room r known) (lay_replica (r.replica me)) me decision (pad requests_max list) (length list)
+      done_on (lay_roles kit) (lay_room r known) (lay_replica (r.replica me)) me decision (pad requests_max list) (length list)
       ≡ lay_room (carried_out kit r me decision list) known
 
   abbrev p : Rules.Replica
@@ -121,16 +123,16 @@ module _ (kit : Kit) (r : Room) (known : ℕ) (b : Bounds kit r) (me : ℕ) (bel
   histories_max_lem = omega (arith, b.histories_filed, b.filed_max_lem)
 
   -- nothing is done
-  pub done_refuse : (answer : Answer) (list : List ℕ) → Done (Refuse answer) list
+  pub done_refuse : (answer : Refusal) (list : List ℕ) → Done (Err answer) list
   unfolding done_on enter_on apply_on counted_on carried_out lay_room
   done_refuse answer list = stays_laid r known me below
 
-  pub done_idle : (list : List ℕ) → Done Idle list
+  pub done_idle : (list : List ℕ) → Done (Ok Idle) list
   unfolding done_on enter_on apply_on counted_on carried_out lay_room
   done_idle list = stays_laid r known me below
 
   pub done_issue : (x name : ℕ) (content : Content) (list : List ℕ) → x < replicas_max → name < names → length (r.counter x name) < places_max
-      → Done (Issue x name content) list
+      → Done (Ok (Issue x name content)) list
   unfolding done_on enter_on apply_on counted_on carried_out lay_room
   done_issue x name content list xb nb room =
       rw (issue_laid r.counter x name xb nb content room) (issued_laid r known me x name content below)
@@ -138,7 +140,7 @@ module _ (kit : Kit) (r : Room) (known : ℕ) (b : Bounds kit r) (me : ℕ) (bel
   -- ---- on ag
 
   pub done_commit : (sender value : ℕ) (list : List ℕ) → sender < replicas_max → is_faulty p.condition ≡ false
-      → Done (Decision.Act (Act.Commit sender value)) list
+      → Done (Ok (Deed.Act (Act.Commit sender value))) list
   unfolding done_on enter_on apply_on act_on counted_on carried_out acted lay_room lay_roles after_commit commit_on accept
   done_commit sender value list sb correct =
       let q = accept p sender ag value in
@@ -149,8 +151,8 @@ module _ (kit : Kit) (r : Room) (known : ℕ) (b : Bounds kit r) (me : ℕ) (bel
 
   pub done_prepare : (sender value request : ℕ) (list : List ℕ) → sender < replicas_max → is_faulty p.condition ≡ false
       → holds request r.submitted ≡ true → holds request p.noted ≡ false
-      → Done (Decision.Act (Act.Prepare sender value request)) list
-  unfolding done_on enter_on apply_on act_on counted_on carried_out acted lay_room lay_desk lay_roles after_prepare prepare_on issue note accept
+      → Done (Ok (Deed.Act (Act.Prepare sender value request))) list
+  unfolding done_on enter_on apply_on act_on counted_on carried_out acted lay_room lay_submissions lay_desk lay_roles after_prepare prepare_on issue note accept
   done_prepare sender value request list sb correct is new =
       let fits : length p.noted < requests_max = noting_fits b me request is new in
       let q = accept (note p request) sender ag value in
@@ -166,7 +168,7 @@ module _ (kit : Kit) (r : Room) (known : ℕ) (b : Bounds kit r) (me : ℕ) (bel
 
   -- ---- on up
 
-  pub done_known_pair : (sender value : ℕ) (list : List ℕ) → sender < replicas_max → Done (Decision.Act (Act.KnownPair sender value)) list
+  pub done_known_pair : (sender value : ℕ) (list : List ℕ) → sender < replicas_max → Done (Ok (Deed.Act (Act.KnownPair sender value))) list
   unfolding done_on enter_on apply_on act_on counted_on carried_out acted lay_room lay_roles after_update accept with_replica
   done_known_pair sender value list sb =
       let q = accept p sender up value in
@@ -174,7 +176,7 @@ module _ (kit : Kit) (r : Room) (known : ℕ) (b : Bounds kit r) (me : ℕ) (bel
       (acted_laid r known r.counter me (with_mark q (mark_of_pair p.pair_marks (settled_count kit me q 0))))
 
   pub done_new_pair : (sender value request mark : ℕ) (list : List ℕ) → sender < replicas_max
-      → holds request r.submitted ≡ true → holds request p.noted ≡ false → Done (Decision.Act (Act.NewPair sender value request mark)) list
+      → holds request r.submitted ≡ true → holds request p.noted ≡ false → Done (Ok (Deed.Act (Act.NewPair sender value request mark))) list
   unfolding done_on enter_on apply_on act_on counted_on carried_out acted lay_room lay_roles after_update accept note_pair with_replica
   done_new_pair sender value request mark list sb is new =
       let fits : length p.noted < requests_max = noting_fits b me request is new in
@@ -189,7 +191,7 @@ module _ (kit : Kit) (r : Room) (known : ℕ) (b : Bounds kit r) (me : ℕ) (bel
 
   -- ---- on sw
 
-  pub done_switch : (sender value : ℕ) (list : List ℕ) → sender < replicas_max → Done (Decision.Act (Act.Switch sender value)) list
+  pub done_switch : (sender value : ℕ) (list : List ℕ) → sender < replicas_max → Done (Ok (Deed.Act (Act.Switch sender value))) list
   unfolding done_on enter_on apply_on act_on counted_on carried_out acted lay_room lay_roles after_switch accept with_replica
   done_switch sender value list sb =
       let q = accept p sender sw value in
@@ -198,25 +200,24 @@ module _ (kit : Kit) (r : Room) (known : ℕ) (b : Bounds kit r) (me : ℕ) (bel
       (λ e. rw e (acted_laid r known r.counter me (with_mark (with_condition q Closed) (mark_of (held_list r p.held)))))
       (λ e. rw e (acted_laid r known r.counter me q)))
 
-  pub done_hand : (history : ℕ) (list : List ℕ) → is_faulty p.condition ≡ false → Done (Decision.Act (Act.Hand history)) list
+  pub done_hand : (history : ℕ) (list : List ℕ) → is_faulty p.condition ≡ false → Done (Ok (Deed.Act (Act.Hand history))) list
   unfolding done_on enter_on apply_on act_on counted_on carried_out acted lay_room hand_on after_hand issue with_replica
   done_hand history list correct =
       let content = Content.Switch history in
       rw (hold_laid p history, issue_laid r.counter me sw below (omega arith) content (own_room sw correct))
       (acted_laid r known (issued_more r.counter me sw content) me (hold p history))
 
-  pub done_panic : (list : List ℕ) → is_running p.condition ≡ true → Done (Decision.Act Act.Panic) list
+  pub done_panic : (list : List ℕ) → is_running p.condition ≡ true → Done (Ok (Deed.Act Act.Panic)) list
   unfolding done_on enter_on apply_on act_on counted_on carried_out acted after_panic lay_room with_replica
   done_panic list running = rw (halt_laid p running) (acted_laid r known r.counter me (with_condition p Halted))
 
   -- ---- what is entered
 
   remembered : (request : ℕ) → length r.submitted < requests_max
-      → entering (lay_room r known) (Submit request)
-      (entered (store_request (length r.submitted) request r.clock (pad requests_max r.submitted) (pad requests_max r.ticks))
-      (filings (lay_heads r.histories) (lay_lists r.histories)))
+      → entering (lay_room r known) (Ok (Submit request))
+      (entered (store_request (length r.submitted) request r.clock (lay_submissions r)) (lay_histories r.histories))
       ≡ lay_room (remember r request) known
-  unfolding lay_room lay_desk remember counted_on store_request
+  unfolding lay_room lay_submissions lay_desk remember counted_on store_request
   remembered request room =
       let n = length r.submitted in
       let ticked : set (pad requests_max r.ticks) n r.clock ≡ pad requests_max (r.ticks ++ (r.clock ∷ [])) =
@@ -251,7 +252,7 @@ module _ (kit : Kit) (r : Room) (known : ℕ) (b : Bounds kit r) (me : ℕ) (bel
       (acted_laid r₁ known (issued_more r.counter me ag content) me (note p request)))
       (λ e. rw (condition_laid p, e) (stays_laid r₁ known me below))
 
-  pub done_submit : (request : ℕ) (list : List ℕ) → me ≡ kit.leader → length r.submitted < requests_max → Done (Submit request) list
+  pub done_submit : (request : ℕ) (list : List ℕ) → me ≡ kit.leader → length r.submitted < requests_max → Done (Ok (Submit request)) list
   unfolding done_on enter_on apply_on carried_out lay_room lay_desk after_submit
   done_submit request list is_leader room =
       let fits : length p.noted < requests_max = omega (arith, noted_submissions (b.replicas me)) in
@@ -262,31 +263,28 @@ module _ (kit : Kit) (r : Room) (known : ℕ) (b : Bounds kit r) (me : ℕ) (bel
   filed_as : (decision : Decision) (h : Filing) (n : ℕ) → length r.histories < histories_max
       → counted_on (lay_desk r known) decision ≡ lay_desk (with_history r h n) known
       → entering (lay_room r known) decision
-      (entered (submissions (pad requests_max r.submitted) (pad requests_max r.ticks))
-      (file_on (length r.histories) h.j h.k (length h.list) (pad requests_max h.list) (lay_heads r.histories)
-      (lay_lists r.histories)))
+      (entered (lay_submissions r) (file_on (length r.histories) (history_of (Some h)) (lay_histories r.histories)))
       ≡ lay_room (with_history r h n) known
-  unfolding lay_room file_on with_history
-  filed_as decision h n room counted = rw (counted, lt-leb histories_max (length r.histories) room, store_head r.histories h, store_list r.histories h)
+  unfolding lay_room lay_submissions file_on with_history
+  filed_as decision h n room counted = rw (counted, lt-leb histories_max (length r.histories) room, store_history r.histories h)
 
-  pub done_file : (j k : ℕ) (list : List ℕ) → length r.histories < histories_max → r.filed < histories_max → Done (File j k) list
+  pub done_file : (j k : ℕ) (list : List ℕ) → length r.histories < histories_max → r.filed < histories_max → Done (Ok (File j k)) list
   unfolding done_on enter_on apply_on carried_out after_file lay_room with_history lay_desk counted_on
   done_file j k list room filed =
       let h : Filing = record { j = j; k = k; list = list } in
       let n = length r.histories in
-      let counted : counted_on (lay_desk r known) (File j k) ≡ lay_desk (with_history r h (suc r.filed)) known =
+      let counted : counted_on (lay_desk r known) (Ok (File j k)) ≡ lay_desk (with_history r h (suc r.filed)) known =
       rw (lt-ltb n 8 room, lt-ltb r.filed 8 filed, length-snoc r.histories h, add-one n, add-one r.filed) in
-      ap (λ (parts : Parts). acting parts me (applied (lay_replica p) (lay_book r.counter))) (filed_as (File j k) h (suc r.filed) room counted)
+      ap (λ (parts : Parts). acting parts me (applied (lay_replica p) (lay_book r.counter))) (filed_as (Ok (File j k)) h (suc r.filed) room counted)
       ∙ stays_laid (with_history r h (suc r.filed)) known me below
 
   -- the history that it builds
   abbrev filing : ℕ → ℕ → Filing
   filing j k = record { j = j; k = k; list = p.noted ++ missing p.noted r.submitted }
 
-  row_built : built_row (lay_replica p).noted (lay_replica p).count (pad requests_max r.submitted) (length r.submitted)
-      ≡ row (pad requests_max (p.noted ++ missing p.noted r.submitted)) (length (p.noted ++ missing p.noted r.submitted))
-  unfolding lay_replica
-  row_built = built_laid p.noted r.submitted (omega (arith, built_fits (b.replicas me), b.submitted_max))
+  history_built : (j k : ℕ) → built_on (lay_replica p) (take (length r.submitted) (lay_submissions r).requests) j k ≡ history_of (Some (filing j k))
+  unfolding lay_submissions
+  history_built j k = rw (take_pad requests_max r.submitted) (built_laid p r.submitted j k (omega (arith, built_fits (b.replicas me), b.submitted_max)))
 
   -- HISTORY on ag and up, SWITCH on sw
   abbrev announced : Counters
@@ -305,13 +303,13 @@ module _ (kit : Kit) (r : Room) (known : ℕ) (b : Bounds kit r) (me : ℕ) (bel
       (rw (issue_laid g₁ me up below (omega arith) (Content.History h) (own_room up correct))
       (rw (issue_laid g₂ me sw below (omega arith) (Content.Switch h) (own_room sw correct))))
 
-  pub done_build : (j k : ℕ) (list : List ℕ) → is_faulty p.condition ≡ false → length r.histories < histories_max → Done (Build j k) list
+  pub done_build : (j k : ℕ) (list : List ℕ) → is_faulty p.condition ≡ false → length r.histories < histories_max → Done (Ok (Build j k)) list
   unfolding done_on enter_on apply_on carried_out lay_room with_history lay_desk counted_on after_build built_list with_replica issue
   done_build j k list correct room =
       let h = filing j k in
       let n = length r.histories in
       let r₁ = with_history r h r.filed in
-      let counted : counted_on (lay_desk r known) (Build j k) ≡ lay_desk r₁ known = rw (lt-ltb n 8 room, length-snoc r.histories h, add-one n) in
-      rw (row_built, announces correct room)
-      (ap (λ (parts : Parts). acting parts me (applied (lay_replica (hold p n)) (lay_book announced))) (filed_as (Build j k) h r.filed room counted)
+      let counted : counted_on (lay_desk r known) (Ok (Build j k)) ≡ lay_desk r₁ known = rw (lt-ltb n 8 room, length-snoc r.histories h, add-one n) in
+      rw (history_built j k, announces correct room)
+      (ap (λ (parts : Parts). acting parts me (applied (lay_replica (hold p n)) (lay_book announced))) (filed_as (Ok (Build j k)) h r.filed room counted)
       ∙ acted_laid r₁ known announced me (hold p n))

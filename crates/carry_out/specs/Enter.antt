@@ -1,77 +1,60 @@
 -- What a decision enters in the room's lists, on every room. Laws: ApplyLaws. Assumes nothing.
-use Rattle.std.specs.Prelude.{List, [], ◌∷◌, ℕ, ◌+◌, set, take, leb}
-use Rattle.terms.specs.Lent.{Heads, Lists}
+use Rattle.std.specs.Prelude.{List, [], ◌∷◌, ℕ, ◌+◌, set, take, leb, Ok, Err}
+use Rattle.terms.specs.Lent.{Requests, Histories}
 use Rattle.terms.specs.Limits.{requests_max, histories_max}
 use Rattle.terms.specs.Lists.{pick, holds}
+use Rattle.terms.specs.declared.Submissions.{Submissions}
+use Rattle.terms.specs.declared.History.{History}
 use Rattle.rules.specs.Switching.{missing}
+use Rattle.replica.specs.declared.Replica.{Replica}
 use Rattle.room.specs.declared.Desk.{Desk}
-use Rattle.terms.specs.declared.Decision.{Decision}
-use Rattle.terms.specs.declared.Decision.TheVariants.{Refuse, Submit, Issue, Idle, Build, File}
+use Rattle.terms.specs.Numbers.{Decision}
+use Rattle.terms.specs.declared.Deed.{Deed}
+use Rattle.terms.specs.declared.Deed.TheVariants.{Submit, Issue, Idle, Build, File}
 
 -- ---- submissions
 
-pub record Submissions : Type 0 where
-  pub requests : List ℕ
-  pub ticks : List ℕ
-
-abbrev pub submissions : List ℕ → List ℕ → Submissions
-submissions requests ticks = record { requests = requests; ticks = ticks }
-
-unfoldable pub store_request : ℕ → ℕ → ℕ → List ℕ → List ℕ → Submissions
-store_request n request clock requests ticks =
-    pick (leb requests_max n) (submissions requests ticks) (submissions (set requests n request) (set ticks n clock))
+unfoldable pub store_request : ℕ → ℕ → ℕ → Submissions → Submissions
+store_request n request clock s =
+    pick (leb requests_max n) s (record { requests = set s.requests n request; ticks = set s.ticks n clock })
 
 -- ---- histories
 
-pub record Filings : Type 0 where
-  pub heads : Heads
-  pub lists : Lists
+unfoldable pub file_on : ℕ → History → Histories → Histories
+file_on h history histories = pick (leb histories_max h) histories (set histories h history)
 
-abbrev pub filings : Heads → Lists → Filings
-filings heads lists = record { heads = heads; lists = lists }
+-- a request goes to the end of a history's list
+abbrev pub listed : History → ℕ → History
+listed h request = record { j = h.j; k = h.k; count = h.count + 1; list = set h.list h.count request }
 
-unfoldable pub file_on : ℕ → ℕ → ℕ → ℕ → List ℕ → Heads → Lists → Filings
-file_on h j k n list heads lists = pick (leb histories_max h) (filings heads lists) (filings (set heads h (j ∷ k ∷ n ∷ [])) (set lists h list))
+-- requests go there, as far as there is room
+abbrev pub store_all : History → List ℕ → History
+store_all h [] = h
+store_all h (q ∷ qs) = pick (leb requests_max h.count) h (store_all (listed h q) qs)
 
--- a row with as many requests as it has
-pub record Row : Type 0 where
-  pub list : List ℕ
-  pub count : ℕ
-
-abbrev pub row : List ℕ → ℕ → Row
-row list count = record { list = list; count = count }
-
--- requests go to the end of a row, as far as there is room
-abbrev pub store_all : Row → List ℕ → Row
-store_all r [] = r
-store_all r (q ∷ qs) = pick (leb requests_max r.count) r (store_all (row (set r.list r.count q) (r.count + 1)) qs)
-
--- a request goes to the end of a row if it is not noted
-unfoldable pub add_missing : List ℕ → ℕ → Row → Row
-add_missing noted request r = pick (holds request noted) r (pick (leb requests_max r.count) r (row (set r.list r.count request) (r.count + 1)))
+-- a request goes there if it is not noted
+unfoldable pub add_missing : List ℕ → ℕ → History → History
+add_missing noted request h = pick (holds request noted) h (pick (leb requests_max h.count) h (listed h request))
 
 -- the noted requests and then the submitted ones not noted
-unfoldable pub built_row : List ℕ → ℕ → List ℕ → ℕ → Row
-built_row noted count requests submitted = store_all (row noted count) (missing (take count noted) (take submitted requests))
+unfoldable pub built_on : Replica → List ℕ → ℕ → ℕ → History
+built_on p submitted j k = store_all (record { j = j; k = k; count = p.count; list = p.noted }) (missing (take p.count p.noted) submitted)
 
 -- ---- each decision
 
 pub record Entered : Type 0 where
-  pub requests : List ℕ
-  pub ticks : List ℕ
-  pub heads : Heads
-  pub lists : Lists
+  pub submissions : Submissions
+  pub histories : Histories
 
-abbrev pub entered : Submissions → Filings → Entered
-entered s f = record { requests = s.requests; ticks = s.ticks; heads = f.heads; lists = f.lists }
+abbrev pub entered : Submissions → Histories → Entered
+entered s f = record { submissions = s; histories = f }
 
-unfoldable pub enter_on : Decision → Desk → List ℕ → ℕ → List ℕ → ℕ → Submissions → Filings → Entered
-enter_on (Submit request) desk noted count list n s f = entered (store_request desk.submitted request desk.clock s.requests s.ticks) f
-enter_on (File j k) desk noted count list n s f = entered s (file_on desk.histories j k n list f.heads f.lists)
-enter_on (Build j k) desk noted count list n s f =
-    let b = built_row noted count s.requests desk.submitted in
-    entered s (file_on desk.histories j k b.count b.list f.heads f.lists)
-enter_on (Refuse answer) desk noted count list n s f = entered s f
-enter_on (Issue replica name content) desk noted count list n s f = entered s f
-enter_on (Decision.Act act) desk noted count list n s f = entered s f
-enter_on Idle desk noted count list n s f = entered s f
+-- p is the record of the replica concerned, the n requests of `list` those of a filed history
+unfoldable pub enter_on : Decision → Desk → Replica → Requests → ℕ → Submissions → Histories → Entered
+enter_on (Ok (Submit request)) desk p list n s f = entered (store_request desk.submitted request desk.clock s) f
+enter_on (Ok (File j k)) desk p list n s f = entered s (file_on desk.histories (record { j = j; k = k; count = n; list = list }) f)
+enter_on (Ok (Build j k)) desk p list n s f = entered s (file_on desk.histories (built_on p (take desk.submitted s.requests) j k) f)
+enter_on (Err answer) desk p list n s f = entered s f
+enter_on (Ok (Issue replica name content)) desk p list n s f = entered s f
+enter_on (Ok (Deed.Act act)) desk p list n s f = entered s f
+enter_on (Ok Idle) desk p list n s f = entered s f

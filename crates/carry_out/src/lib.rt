@@ -2,124 +2,107 @@
 
 #![tactic(auto)]
 
-ghost use Rattle.std.specs.Prelude.{◌≡◌, take};
+ghost use Rattle.std.specs.Prelude.{◌≡◌};
 ghost use Rattle.terms.specs.Mark.{mark_of};
-ghost use Rattle.rules.specs.Switching.{missing};
-ghost use Rattle.ledger.specs.Ledger.{book, issue_on};
-ghost use Rattle.carry_out.specs.Enter.{submissions, store_request, filings, file_on, row, store_all, add_missing, entered, enter_on};
+ghost use Rattle.ledger.specs.Ledger.{issue_on};
+ghost use Rattle.carry_out.specs.Enter.{store_request, file_on, add_missing, built_on, entered, enter_on};
 ghost use Rattle.carry_out.specs.Apply.{applied, request_at, settle_on, lead_on, prepare_on, commit_on, pair_on, held_mark, switch_on, hand_on, build_on, act_on, apply_on, moves_on};
 
-use ledger::{Issued, Ledger};
+use ledger::Book;
 use replica::Replica;
-use room::{Desk, Roles};
+use room::Desk;
 use terms::{
-    AG, Act, Condition, Content, Decision, HISTORIES, Heads, Lists, REQUESTS, Requests, SW, Table,
-    Ticks, UP,
+    AG, Act, Condition, Content, Decision, Deed, HISTORIES, Histories, History, REQUESTS, Requests,
+    Roles, SW, Submissions, UP,
 };
 
 // ---- what is entered
 
 // The request and its tick are remembered as the n-th submission.
 #[tactic(auto, unfolding(crate::specs::Enter::store_request))]
-fn store_request(n: usize, request: u32, clock: u64, requests: &mut Requests, ticks: &mut Ticks)
-    ensures { submissions requests.new ticks.new ≡ store_request n request clock requests.old ticks.old }
+fn store_request(n: usize, request: u32, clock: u64, submissions: &mut Submissions)
+    ensures { submissions.new ≡ store_request n request clock submissions.old }
 {
-    if REQUESTS <= n {
-        return;
+    if n < REQUESTS {
+        submissions.requests[n] = request;
+        submissions.ticks[n] = clock;
     }
-    requests[n] = request;
-    ticks[n] = clock;
 }
 
-// The h-th history is filed: its j, its k, the n requests of its list.
+// The h-th history is filed.
 #[tactic(auto, unfolding(crate::specs::Enter::file_on))]
-fn file(
-    h: usize,
-    j: usize,
-    k: usize,
-    n: usize,
-    list: &Requests,
-    heads: &mut Heads,
-    lists: &mut Lists,
-)
-    ensures { filings heads.new lists.new ≡ file_on h j k n list.now heads.old lists.old }
+fn file(h: usize, history: History, histories: &mut Histories)
+    ensures { histories.new ≡ file_on h history histories.old }
 {
-    if HISTORIES <= h {
-        return;
+    if h < HISTORIES {
+        histories[h] = history;
     }
-    heads[h] = [j, k, n];
-    lists[h] = *list;
 }
 
-// A request goes to the end of a row of n requests, if it is not among the noted ones; says how many there are then.
+// A request goes to the end of a history's list, if it is not among the noted ones.
 #[tactic(auto, unfolding(crate::specs::Enter::add_missing))]
-fn add_missing(noted: &Requests, count: usize, request: u32, list: &mut Requests, n: usize) -> usize
-    ensures { row list.new result ≡ add_missing (take count noted.now) request (row list.old n) }
+fn add_missing(noted: &[u32], request: u32, history: &mut History)
+    ensures { history.new ≡ add_missing noted.now request history.old }
 {
-    if terms::holds(noted, count, request) {
-        return n;
+    if history.count < REQUESTS && !terms::holds(noted, request) {
+        history.list[history.count] = request;
+        history.count += 1;
     }
-    if REQUESTS <= n {
-        return n;
-    }
-    list[n] = request;
-    n + 1
 }
 
-// The submitted requests that are not noted go to the end of a row of n requests, in order of submission; says how many there are then.
-fn add_all_missing(
-    noted: &Requests,
-    count: usize,
-    requests: &Requests,
-    submitted: usize,
-    list: &mut Requests,
-) -> usize
-    ensures { row list.new result ≡ store_all (row list.old count) (missing (take count noted.now) (take submitted requests.now)) }
+// The history that the switch leader builds: its noted requests and then the submitted ones that it has not noted, in order of submission.
+#[tactic(auto, unfolding(crate::specs::Enter::built_on))]
+fn built(p: &Replica, submitted: &[u32], j: usize, k: usize) -> History
+    ensures { result ≡ built_on p.now submitted.now j k }
 {
-    let all: &[u32] = requests;
-    let mut n = count;
-    let mut i: usize = 0;
-    while i < submitted {
-        if all.len() <= i {
-            return n;
-        }
-        n = add_missing(noted, count, all[i], list, n);
-        i = i + 1;
+    let mut history = History {
+        j,
+        k,
+        count: p.count,
+        list: p.noted,
+    };
+    let noted = terms::first(&p.noted, p.count);
+    for &request in submitted {
+        add_missing(noted, request, &mut history);
     }
-    n
+    history
 }
 
-// What a decision enters in the room's lists: a submitted request with its tick, a filed history with its list, or the history that the
-// switch leader builds, which is its noted requests and then the submitted ones that it has not noted.
-#[tactic(auto, unfolding(crate::specs::Enter::enter_on, crate::specs::Enter::built_row))]
+// What a decision enters in the room's lists: a submitted request with its tick, a filed history with its list, the n first of `list`, or the
+// history that the switch leader builds. `p` is the record of the replica concerned.
+// `list` and `n` stay two, no slice: a filed history takes over all 64 places, those past n too (`enter_on`).
+#[tactic(auto, unfolding(crate::specs::Enter::enter_on))]
 pub fn enter(
     decision: Decision,
-    desk: Desk,
-    noted: &Requests,
-    count: usize,
+    desk: &Desk,
+    p: &Replica,
     list: &Requests,
     n: usize,
-    requests: &mut Requests,
-    ticks: &mut Ticks,
-    heads: &mut Heads,
-    lists: &mut Lists,
+    submissions: &mut Submissions,
+    histories: &mut Histories,
 )
-    ensures { entered (submissions requests.new ticks.new) (filings heads.new lists.new) ≡ enter_on decision desk noted.now count list.now n (submissions requests.old ticks.old) (filings heads.old lists.old) }
+    ensures { entered submissions.new histories.new ≡ enter_on decision desk.now p.now list.now n submissions.old histories.old }
 {
-    let submitted = desk.submitted;
     let h = desk.histories;
     match decision {
-        Decision::Submit(request) => store_request(submitted, request, desk.clock, requests, ticks),
-        Decision::File(j, k) => file(h, terms::index(j), terms::index(k), n, list, heads, lists),
-        Decision::Build(j, k) => {
-            let mut row = *noted;
-            let length = add_all_missing(noted, count, requests, submitted, &mut row);
-            file(h, j, k, length, &row, heads, lists);
+        Ok(Deed::Submit(request)) => {
+            store_request(desk.submitted, request, desk.clock, submissions);
         }
-        Decision::Refuse(_) => {}
-        Decision::Issue(_, _, _) => {}
-        Decision::Act(_) => {}
-        Decision::Idle => {}
+        Ok(Deed::File(j, k)) => {
+            let history = History {
+                j: j as usize,
+                k: k as usize,
+                count: n,
+                list: *list,
+            };
+            file(h, history, histories);
+        }
+        Ok(Deed::Build(j, k)) => {
+            let submitted = terms::first(&submissions.requests, desk.submitted);
+            let history = built(p, submitted, j, k);
+            file(h, history, histories);
+        }
+        _ => {}
     }
 }
 
@@ -130,65 +113,44 @@ pub fn enter(
 fn request_at(list: &Requests, c: usize) -> u32
     ensures { result ≡ request_at list.now c }
 {
-    if REQUESTS <= c {
-        return 0;
-    }
-    list[c]
+    list.get(c).copied().unwrap_or(0)
 }
 
 // A replica that had settled c and now has settled d: when that has risen it executes the request that comes next and issues UPDATE on up.
 #[tactic(auto, unfolding(crate::specs::Apply::settle_on))]
-fn settle(
-    p: Replica,
-    c: usize,
-    d: usize,
-    me: usize,
-    ledger: &mut Ledger,
-    issued: &mut Issued,
-) -> Replica
-    ensures { applied result (book ledger.new issued.new) ≡ settle_on p c d me (book ledger.old issued.old) }
+fn settle(p: Replica, c: usize, d: usize, me: usize, book: &mut Book) -> Replica
+    ensures { applied result book.new ≡ settle_on p c d me book.old }
 {
-    if c < d {
-        let noted = p.noted;
-        let request = request_at(&noted, c);
-        let mark = terms::next_mark(p.mark, request);
-        ledger::issue(ledger, issued, me, UP, Content::Update(request, mark));
-        return p.with_mark(mark);
+    if d <= c {
+        return p;
     }
-    p
+    let request = request_at(&p.noted, c);
+    let mark = terms::next_mark(p.mark, request);
+    book.issue(me, UP, Content::Update(request, mark));
+    p.with_mark(mark)
 }
 
 // ---- what each decision does
 
 // A running leader notes the request and issues PREPARE on ag.
 #[tactic(auto, unfolding(crate::specs::Apply::lead_on))]
-fn lead(p: Replica, request: u32, me: usize, ledger: &mut Ledger, issued: &mut Issued) -> Replica
-    ensures { applied result (book ledger.new issued.new) ≡ lead_on p request me (book ledger.old issued.old) }
+fn lead(p: Replica, request: u32, me: usize, book: &mut Book) -> Replica
+    ensures { applied result book.new ≡ lead_on p request me book.old }
 {
-    let condition = p.condition;
-    match condition {
+    match p.condition {
         Condition::Running => {
-            ledger::issue(ledger, issued, me, AG, Content::Prepare(request));
+            book.issue(me, AG, Content::Prepare(request));
             in_place::noted(p, request)
         }
-        Condition::Halted => p,
-        Condition::Closed => p,
-        Condition::Faulty => p,
+        _ => p,
     }
 }
 
 // A faulty replica, x, issues what it likes; the record stays.
-fn issue_freely(
-    p: Replica,
-    x: usize,
-    name: usize,
-    content: Content,
-    ledger: &mut Ledger,
-    issued: &mut Issued,
-) -> Replica
-    ensures { applied result (book ledger.new issued.new) ≡ applied p (issue_on ledger.old issued.old x name content) }
+fn issue_freely(p: Replica, x: usize, name: usize, content: Content, book: &mut Book) -> Replica
+    ensures { applied result book.new ≡ applied p (issue_on book.old x name content) }
 {
-    ledger::issue(ledger, issued, x, name, content);
+    book.issue(x, name, content);
     p
 }
 
@@ -200,21 +162,16 @@ fn prepare(
     value: u32,
     request: u32,
     me: usize,
-    leader: usize,
-    table: &Table,
-    ledger: &mut Ledger,
-    issued: &mut Issued,
+    roles: &Roles,
+    book: &mut Book,
 ) -> Replica
-    ensures { applied result (book ledger.new issued.new) ≡ prepare_on p sender value request me leader table.now (book ledger.old issued.old) }
+    ensures { applied result book.new ≡ prepare_on p sender value request me roles.now book.old }
 {
-    let before = p.accepted;
-    let c = replica::settled_count(&before, table, leader, me, ledger::total(issued, me, AG));
-    let noting = in_place::noted(p, request);
-    let accepting = noting.accept(sender, AG, value);
-    ledger::issue(ledger, issued, me, AG, Content::Commit(request, value));
-    let after = accepting.accepted;
-    let d = replica::settled_count(&after, table, leader, me, ledger::total(issued, me, AG));
-    settle(accepting, c, d, me, ledger, issued)
+    let c = p.settled_count(roles, me, book.total(me, AG));
+    let accepting = in_place::noted(p, request).accept(sender, AG, value);
+    book.issue(me, AG, Content::Commit(request, value));
+    let d = accepting.settled_count(roles, me, book.total(me, AG));
+    settle(accepting, c, d, me, book)
 }
 
 // The receiver of a COMMIT accepts it and settles.
@@ -224,72 +181,48 @@ fn commit(
     sender: usize,
     value: u32,
     me: usize,
-    leader: usize,
-    table: &Table,
-    ledger: &mut Ledger,
-    issued: &mut Issued,
+    roles: &Roles,
+    book: &mut Book,
 ) -> Replica
-    ensures { applied result (book ledger.new issued.new) ≡ commit_on p sender value me leader table.now (book ledger.old issued.old) }
+    ensures { applied result book.new ≡ commit_on p sender value me roles.now book.old }
 {
-    let own = ledger::total(issued, me, AG);
-    let before = p.accepted;
-    let c = replica::settled_count(&before, table, leader, me, own);
+    let own = book.total(me, AG);
+    let c = p.settled_count(roles, me, own);
     let accepting = p.accept(sender, AG, value);
-    let after = accepting.accepted;
-    let d = replica::settled_count(&after, table, leader, me, own);
-    settle(accepting, c, d, me, ledger, issued)
+    let d = accepting.settled_count(roles, me, own);
+    settle(accepting, c, d, me, book)
 }
 
 // The receiver of an UPDATE accepts it; its mark is that of its last settled pair.
 #[tactic(auto, unfolding(crate::specs::Apply::pair_on))]
-fn accept_pair(
-    p: Replica,
-    sender: usize,
-    value: u32,
-    me: usize,
-    leader: usize,
-    table: &Table,
-) -> Replica
-    ensures { result ≡ pair_on p sender value me leader table.now }
+fn accept_pair(p: Replica, sender: usize, value: u32, me: usize, roles: &Roles) -> Replica
+    ensures { result ≡ pair_on p sender value me roles.now }
 {
     let accepting = p.accept(sender, UP, value);
-    let accepted = accepting.accepted;
-    let marks = accepting.marks;
-    let c = replica::settled_count(&accepted, table, leader, me, 0);
-    let mark = replica::mark_of_pair(&marks, c);
-    accepting.with_mark(mark)
+    let c = accepting.settled_count(roles, me, 0);
+    accepting.with_mark(accepting.mark_of_pair(c))
 }
 
-// The mark of the first n requests of a list.
-fn mark_of(list: &Requests, n: usize) -> u32
-    ensures { result ≡ mark_of (take n list.now) }
+// The mark of a list.
+fn mark_of(list: &[u32]) -> u32
+    ensures { result ≡ mark_of list.now }
 {
-    let all: &[u32] = list;
-    let mut mark: u32 = 0;
-    let mut i: usize = 0;
-    while i < n {
-        if all.len() <= i {
-            return mark;
-        }
-        mark = terms::next_mark(mark, all[i]);
-        i = i + 1;
-    }
-    mark
+    list.iter()
+        .fold(0, |mark, &request| terms::next_mark(mark, request))
 }
 
 // The mark of the list of the history that is held, 0 where there is none.
 #[tactic(auto, unfolding(crate::specs::Apply::held_mark))]
-fn held_mark(holding: bool, held: u32, heads: &Heads, lists: &Lists) -> u32
-    ensures { result ≡ held_mark holding held heads.now lists.now }
+fn held_mark(held: Option<u32>, histories: &Histories) -> u32
+    ensures { result ≡ held_mark held histories.now }
 {
-    let h = terms::index(held);
-    if holding {
-        if HISTORIES <= h {
-            return 0;
+    match held {
+        Some(h) if (h as usize) < HISTORIES => {
+            let history = &histories[h as usize];
+            mark_of(terms::first(&history.list, history.count))
         }
-        return mark_of(&lists[h], heads[h][2]);
+        _ => 0,
     }
-    0
 }
 
 // The receiver of a SWITCH accepts it; with f senders accepted it closes, with the mark of the list that it holds.
@@ -298,43 +231,40 @@ fn accept_switch(
     p: Replica,
     sender: usize,
     value: u32,
-    f: u32,
-    size: usize,
-    heads: &Heads,
-    lists: &Lists,
+    roles: &Roles,
+    histories: &Histories,
 ) -> Replica
-    ensures { result ≡ switch_on p sender value f size heads.now lists.now }
+    ensures { result ≡ switch_on p sender value roles.now histories.now }
 {
     let accepting = p.accept(sender, SW, value);
-    let accepted = accepting.accepted;
-    if replica::switches(&accepted, size) < f {
+    if accepting.switches(roles.size) < roles.f {
         return accepting;
     }
-    let mark = held_mark(accepting.holding, accepting.held, heads, lists);
+    let mark = held_mark(accepting.held, histories);
     in_place::closed(accepting, mark)
 }
 
 // The receiver of a history holds it and issues SWITCH of it on sw.
 #[tactic(auto, unfolding(crate::specs::Apply::hand_on))]
-fn hand(p: Replica, history: u32, me: usize, ledger: &mut Ledger, issued: &mut Issued) -> Replica
-    ensures { applied result (book ledger.new issued.new) ≡ hand_on p history me (book ledger.old issued.old) }
+fn hand(p: Replica, history: u32, me: usize, book: &mut Book) -> Replica
+    ensures { applied result book.new ≡ hand_on p history me book.old }
 {
-    ledger::issue(ledger, issued, me, SW, Content::Switch(history));
+    book.issue(me, SW, Content::Switch(history));
     in_place::held(p, history)
 }
 
 // The switch leader issues HISTORY of the h-th history on ag and up, holds it, and issues SWITCH of it on sw.
 #[tactic(auto, unfolding(crate::specs::Apply::build_on))]
-fn build(p: Replica, h: usize, me: usize, ledger: &mut Ledger, issued: &mut Issued) -> Replica
-    ensures { applied result (book ledger.new issued.new) ≡ build_on p h me (book ledger.old issued.old) }
+fn build(p: Replica, h: usize, me: usize, book: &mut Book) -> Replica
+    ensures { applied result book.new ≡ build_on p h me book.old }
 {
     if HISTORIES <= h {
         return p;
     }
     let history = h as u32;
-    ledger::issue(ledger, issued, me, AG, Content::History(history));
-    ledger::issue(ledger, issued, me, UP, Content::History(history));
-    hand(p, history, me, ledger, issued)
+    book.issue(me, AG, Content::History(history));
+    book.issue(me, UP, Content::History(history));
+    hand(p, history, me, book)
 }
 
 // Whether a decision does anything to a record or a counter.
@@ -342,15 +272,10 @@ fn build(p: Replica, h: usize, me: usize, ledger: &mut Ledger, issued: &mut Issu
 pub fn moves(decision: Decision) -> bool
     ensures { result ≡ moves_on decision }
 {
-    match decision {
-        Decision::Refuse(_) => false,
-        Decision::Idle => false,
-        Decision::File(_, _) => false,
-        Decision::Submit(_) => true,
-        Decision::Issue(_, _, _) => true,
-        Decision::Act(_) => true,
-        Decision::Build(_, _) => true,
-    }
+    matches!(
+        decision,
+        Ok(Deed::Submit(_) | Deed::Issue(_, _, _) | Deed::Act(_) | Deed::Build(_, _))
+    )
 }
 
 // What the replica concerned, `me`, does at what has reached it.
@@ -359,31 +284,23 @@ fn act_on(
     p: Replica,
     act: Act,
     me: usize,
-    roles: Roles,
-    table: &Table,
-    heads: &Heads,
-    lists: &Lists,
-    ledger: &mut Ledger,
-    issued: &mut Issued,
+    roles: &Roles,
+    histories: &Histories,
+    book: &mut Book,
 ) -> Replica
-    ensures { applied result (book ledger.new issued.new) ≡ act_on p act me roles table.now heads.now lists.now (book ledger.old issued.old) }
+    ensures { applied result book.new ≡ act_on p act me roles.now histories.now book.old }
 {
-    let leader = roles.leader;
     match act {
         Act::Prepare(sender, value, request) => {
-            prepare(p, sender, value, request, me, leader, table, ledger, issued)
+            prepare(p, sender, value, request, me, roles, book)
         }
-        Act::Commit(sender, value) => {
-            commit(p, sender, value, me, leader, table, ledger, issued)
-        }
-        Act::KnownPair(sender, value) => accept_pair(p, sender, value, me, leader, table),
+        Act::Commit(sender, value) => commit(p, sender, value, me, roles, book),
+        Act::KnownPair(sender, value) => accept_pair(p, sender, value, me, roles),
         Act::NewPair(sender, value, request, mark) => {
-            accept_pair(p.note_pair(request, mark), sender, value, me, leader, table)
+            accept_pair(p.note_pair(request, mark), sender, value, me, roles)
         }
-        Act::Switch(sender, value) => {
-            accept_switch(p, sender, value, roles.f, roles.size, heads, lists)
-        }
-        Act::Hand(history) => hand(p, history, me, ledger, issued),
+        Act::Switch(sender, value) => accept_switch(p, sender, value, roles, histories),
+        Act::Hand(history) => hand(p, history, me, book),
         Act::Panic => p.halt(),
     }
 }
@@ -394,24 +311,19 @@ fn act_on(
 pub fn apply(
     p: Replica,
     decision: Decision,
-    desk: Desk,
+    desk: &Desk,
     me: usize,
-    roles: Roles,
-    table: &Table,
-    heads: &Heads,
-    lists: &Lists,
-    ledger: &mut Ledger,
-    issued: &mut Issued,
+    roles: &Roles,
+    histories: &Histories,
+    book: &mut Book,
 ) -> Replica
-    ensures { applied result (book ledger.new issued.new) ≡ apply_on p decision desk me roles table.now heads.now lists.now (book ledger.old issued.old) }
+    ensures { applied result book.new ≡ apply_on p decision desk.now me roles.now histories.now book.old }
 {
     match decision {
-        Decision::Submit(request) => lead(p, request, me, ledger, issued),
-        Decision::Issue(x, name, content) => issue_freely(p, x, name, content, ledger, issued),
-        Decision::Act(act) => act_on(p, act, me, roles, table, heads, lists, ledger, issued),
-        Decision::Build(_, _) => build(p, desk.histories, me, ledger, issued),
-        Decision::Refuse(_) => p,
-        Decision::Idle => p,
-        Decision::File(_, _) => p,
+        Ok(Deed::Submit(request)) => lead(p, request, me, book),
+        Ok(Deed::Issue(x, name, content)) => issue_freely(p, x, name, content, book),
+        Ok(Deed::Act(act)) => act_on(p, act, me, roles, histories, book),
+        Ok(Deed::Build(_, _)) => build(p, desk.histories, me, book),
+        Ok(Deed::Idle | Deed::File(_, _)) | Err(_) => p,
     }
 }

@@ -12,17 +12,17 @@ use Rattle.rules.proofs.Laws.TableLaws.{Roles, roles, actives_ext}
 use Rattle.rules.specs.Room.{Room}
 use Rattle.rules.specs.Reading.{answered_at, answered}
 use Rattle.rules.proofs.Laws.ReadingLaws.{is_content_same}
-use Rattle.ledger.specs.LedgerLayout.{lay_ledger, lay_issued}
+use Rattle.ledger.specs.LedgerLayout.{lay_book}
 use Rattle.ledger.specs.LedgerLaws.{content_laid}
 use Rattle.replica.specs.RecordLaws.{actives_laid}
-use Rattle.room.specs.Layout.{lay_table}
+use Rattle.room.specs.Layout.{lay_roles, lay_table}
 use Rattle.room.specs.Bounds.{Bounds}
 use Rattle.room.specs.GoodLaws.{size_max, leader_max}
 use Rattle.clock.specs.AnsweredOn.{up_value, has_updated, updated_by, answered_at_on, answered_on}
 
 -- an up value is what the room has there
 up_laid : (counter : ℕ → ℕ → List Content) (y i : ℕ) → y < replicas_max → length (counter y up) ≤ places_max
-    → up_value (lay_ledger counter) (lay_issued counter) (suc i) y ≡ nth (counter y up) i
+    → up_value (lay_book counter) (suc i) y ≡ nth (counter y up) i
 up_laid counter y i small few = content_laid counter y up small (omega arith) (suc i) few
 
 -- no value that the leader has not issued answers a request, since the leader is active
@@ -36,13 +36,13 @@ unanswered_past kit role r request i past =
 
 module _ (kit : Kit) (r : Room) (b : Bounds kit r) where
   at_laid : (request i : ℕ)
-      → answered_at_on (lay_table kit) kit.leader request (lay_ledger r.counter) (lay_issued r.counter) i ≡ answered_at kit r request (suc i)
-  unfolding answered_at_on updated_by has_updated answered_at actives lay_table
+      → answered_at_on (lay_roles kit) request (lay_book r.counter) i ≡ answered_at kit r request (suc i)
+  unfolding answered_at_on updated_by has_updated answered_at actives lay_roles lay_table
   at_laid request i =
       rw (actives_laid kit.table, up_laid r.counter kit.leader i (leader_max b.good) (b.counter_max kit.leader up))
       (actives_ext kit.table 0 _ _ (λ y h. rw (up_laid r.counter y i (omega (arith, size_max b.good)) (b.counter_max y up))))
 
-  pub answered_laid : (request : ℕ) → answered_on (lay_table kit) kit.leader request (lay_ledger r.counter) (lay_issued r.counter) ≡ answered kit r request
+  pub answered_laid : (request : ℕ) → answered_on (lay_roles kit) request (lay_book r.counter) ≡ answered kit r request
   unfolding answered_on answered
   answered_laid request =
       ap (any_below places_max) (fun_ext (at_laid request))

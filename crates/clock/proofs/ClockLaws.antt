@@ -12,8 +12,8 @@ use Rattle.rules.proofs.Laws.Tested.{none_of}
 use Rattle.rules.specs.Clock.{tick}
 use Rattle.rules.proofs.Laws.Growth.{tick_grows}
 use Rattle.rules.proofs.Laws.Refused.{tick_ticked}
-use Rattle.ledger.specs.LedgerLayout.{lay_ledger, lay_issued}
-use Rattle.room.specs.Layout.{lay_roles, lay_table, lay_desk, lay_replicas, lay_heads, lay_lists, lay_room}
+use Rattle.ledger.specs.LedgerLayout.{lay_book}
+use Rattle.room.specs.Layout.{lay_roles, lay_submissions, lay_desk, lay_replicas, lay_histories, lay_room}
 use Rattle.room.specs.Bounds.{Bounds}
 use Rattle.clock.specs.Tick.{first_open, stops_at, tick_on}
 use Rattle.clock.proofs.TickLaws.{stop_of, is_overdue, no_wrap, stop_known, overdue_found}
@@ -33,27 +33,23 @@ module _ (kit : Kit) (r : Room) (known gap : ℕ) (b : Bounds kit r) (k : Known 
 
   -- the desk
   pub desk_laid
-      : tick_on (lay_desk r known) gap (lay_roles kit) (lay_table kit) (pad requests_max r.submitted) (pad requests_max r.ticks)
-      (lay_ledger r.counter) (lay_issued r.counter)
+      : tick_on (lay_desk r known) gap (lay_roles kit) (lay_submissions r) (lay_book r.counter)
       ≡ lay_desk (tick kit r gap) (known_after kit r known gap)
-  unfolding tick_on stops_at first_open lay_desk lay_roles tick with_clock with_late
+  unfolding tick_on stops_at first_open lay_desk lay_roles lay_submissions tick with_clock with_late
   desk_laid =
       rw (no_wrap kit r known gap b k small)
-      (split (is_some r.late) (λ e. rw e (rw e))
+      (split (is_some r.late) (λ e. rw e)
       (λ e. rw (e, overdue_found kit r known gap b k small) (split (is_overdue kit r known gap) (λ o. rw o) (λ o. rw (o, none_of r.late e)))))
 
   -- all parts
-  pub clock_laid : lay_room (tick kit r gap) (known_after kit r known gap) ≡ clock_on (lay_roles kit) (lay_table kit) (lay_room r known) gap
-  unfolding lay_room clock_on lay_desk
+  pub clock_laid : lay_room (tick kit r gap) (known_after kit r known gap) ≡ clock_on (lay_roles kit) (lay_room r known) gap
+  unfolding lay_room clock_on lay_desk lay_submissions
   clock_laid =
       let t = tick_ticked kit r gap in
       λ j. record {
         desk = sym desk_laid j;
-        requests = pad requests_max (t.submitted j);
-        ticks = pad requests_max (t.ticks j);
-        heads = lay_heads (t.histories j);
-        lists = lay_lists (t.histories j);
-        ledger = lay_ledger (t.counter j);
-        issued = lay_issued (t.counter j);
+        submissions = record { requests = pad requests_max (t.submitted j); ticks = pad requests_max (t.ticks j) };
+        histories = lay_histories (t.histories j);
+        book = lay_book (t.counter j);
         replicas = lay_replicas (t.replica j);
       }

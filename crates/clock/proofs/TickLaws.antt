@@ -3,7 +3,7 @@
 use Rattle.std.proofs.Common.{◌≡◌, ℕ, zero, suc, ◌+◌, ◌-◌, ◌%◌, ◌^◌, ◌<◌, ◌≤◌, Bool, true, false, ◌&&◌, List, length, drop, ◌==◌, nat_le, nat_lt, slice_index, sym, ◌∙◌, mod-eq_of_lt, drop_of_length-le, arith, lt-ltb, le-ltb, le-leb, leb-false, eqb-true}
 use Rattle.std.proofs.Math.Path.{ap}
 use Rattle.std.proofs.Math.Logic.{by_cases}
-use Rattle.std.proofs.Math.Option.{none, some}
+use Rattle.std.specs.Prelude.{None, Some}
 use Rattle.std.proofs.Math.Decide.{dec_lt}
 use borrow.Author.Tests.{lt-leb, eqb-false}
 use Rattle.terms.specs.Limits.{requests_max, ticks_max}
@@ -15,8 +15,8 @@ use Rattle.rules.specs.Room.{Room, with_clock}
 use Rattle.rules.specs.Reading.{answered}
 use Rattle.rules.specs.Clock.{overdue}
 use Rattle.rules.proofs.Laws.Answered.{answered_clock}
-use Rattle.ledger.specs.LedgerLayout.{lay_ledger, lay_issued}
-use Rattle.room.specs.Layout.{lay_roles, lay_table}
+use Rattle.ledger.specs.LedgerLayout.{lay_book}
+use Rattle.room.specs.Layout.{lay_roles, lay_submissions}
 use Rattle.room.specs.Bounds.{Bounds}
 use Rattle.clock.proofs.AnsweredLaws.{answered_laid}
 use Rattle.clock.specs.Tick.{due_at, is_due, passed, first_from}
@@ -56,15 +56,14 @@ due_wait u patience clock past small =
     (λ h. rw (le-leb (u + patience) clock (omega arith), le-leb patience (clock - u) (omega arith))))
 
 -- an element of a list that is laid out
-laid_at : (l : List ℕ) (i a : ℕ) → nth l i ≡ some a → slice_index (pad requests_max l) i ≡ a
+laid_at : (l : List ℕ) (i a : ℕ) → nth l i ≡ Some a → slice_index (pad requests_max l) i ≡ a
 laid_at l i a e = let here = sym (nth-get_or l i 0 (nth-lt l i e)) ∙ e in get_or_pad requests_max l i ∙ cc (here)
 
 module _ (kit : Kit) (r : Room) (known gap : ℕ) where
   -- submission i is due and answered, as the code tests it
   abbrev test_of : ℕ → Bool
   test_of =
-      passed (r.clock + gap) (lay_roles kit) (lay_table kit) (pad requests_max r.submitted) (pad requests_max r.ticks) (lay_ledger r.counter)
-      (lay_issued r.counter)
+      passed (r.clock + gap) (lay_roles kit) (lay_submissions r) (lay_book r.counter)
 
   -- where the search stops
   abbrev pub stop_of : ℕ
@@ -88,14 +87,14 @@ module _ (kit : Kit) (r : Room) (known gap : ℕ) (b : Bounds kit r) (k : Known 
   pub no_wrap : (r.clock + gap) % 2 ^ 64 ≡ clock
   no_wrap = mod-eq_of_lt (omega (arith, b.clock_max))
 
-  tick_small : (i u : ℕ) → nth r.ticks i ≡ some u → (u ≤ clock) × (u + kit.patience < 2 ^ 64)
+  tick_small : (i u : ℕ) → nth r.ticks i ≡ Some u → (u ≤ clock) × (u + kit.patience < 2 ^ 64)
   tick_small i u e =
       let past = b.ticks_past i u e in
       (omega arith, omega (arith, b.clock_max, b.good.patience_high))
 
   -- one submission, as the code tests it and as the rules do
-  passed_laid : (i q u : ℕ) → nth r.submitted i ≡ some q → nth r.ticks i ≡ some u → test i ≡ (nat_le kit.patience (clock - u) && answered kit r q)
-  unfolding passed lay_roles
+  passed_laid : (i q u : ℕ) → nth r.submitted i ≡ Some q → nth r.ticks i ≡ Some u → test i ≡ (nat_le kit.patience (clock - u) && answered kit r q)
+  unfolding passed lay_roles lay_submissions
   passed_laid i q u e d =
       let room : i < requests_max = omega (arith, nth-lt r.submitted i e, b.submitted_max) in
       let fits = tick_small i u d in
@@ -108,7 +107,7 @@ module _ (kit : Kit) (r : Room) (known gap : ℕ) (b : Bounds kit r) (k : Known 
       )
 
   -- the submission that the search has come to, if there is one
-  tick_of : (i : ℕ) → i < length r.submitted → (u : ℕ) × (nth r.ticks i ≡ some u)
+  tick_of : (i : ℕ) → i < length r.submitted → (u : ℕ) × (nth r.ticks i ≡ Some u)
   tick_of i h = nth_in r.ticks i (rw b.ticks_length h)
 
   stop_high : stop ≤ length r.submitted
@@ -133,7 +132,7 @@ module _ (kit : Kit) (r : Room) (known gap : ℕ) (b : Bounds kit r) (k : Known 
   skips = overdue_skip kit later r.submitted r.ticks stop (λ i q h e. answered_clock kit r clock q ∙ stop_known.all_answered i q h e)
 
   -- a later submission has waited no longer
-  waits_less : (u i v : ℕ) → nth r.ticks stop ≡ some u → nth (drop stop r.ticks) i ≡ some v → nat_le kit.patience (clock - u) ≡ false
+  waits_less : (u i v : ℕ) → nth r.ticks stop ≡ Some u → nth (drop stop r.ticks) i ≡ Some v → nat_le kit.patience (clock - u) ≡ false
       → nat_le kit.patience (clock - v) ≡ false
   waits_less u i v d e w =
       let rises : u ≤ v = b.ticks_ascend stop (stop + i) u v (omega arith) d (sym (nth_drop stop r.ticks i) ∙ e) in
@@ -142,7 +141,7 @@ module _ (kit : Kit) (r : Room) (known gap : ℕ) (b : Bounds kit r) (k : Known 
   -- the late tick of the rules is that of the submission at which the search stops
   pub overdue_found
       : overdue kit later r.submitted r.ticks
-      ≡ pick (is_overdue kit r known gap) (some (due_at (slice_index (pad requests_max r.ticks) stop) kit.patience)) none
+      ≡ pick (is_overdue kit r known gap) (Some (due_at (slice_index (pad requests_max r.ticks) stop) kit.patience)) None
   unfolding with_clock due_at
   overdue_found =
       by_cases (dec_lt stop (length r.submitted))
@@ -159,7 +158,7 @@ module _ (kit : Kit) (r : Room) (known gap : ℕ) (b : Bounds kit r) (k : Known 
       rw w at (sym test-is ∙ first_fails test known (length r.submitted - known) (omega (arith, k.within))) in
       rw w
       (overdue_here kit later r.submitted r.ticks stop q.0 u.0 q.1 u.1 (answered_clock kit r clock q.0 ∙ open-one) w
-      ∙ ap (λ (n : ℕ). some n) (sym (mod-eq_of_lt fits.1))))
+      ∙ ap (λ (n : ℕ). Some n) (sym (mod-eq_of_lt fits.1))))
       (λ w. rw w (overdue_none kit later (drop stop r.submitted) (drop stop r.ticks) (λ i v e. waits_less u.0 i v u.1 e w)))))
       (λ over. let past : length r.submitted ≤ stop = omega arith in
       skips ∙ rw (drop_of_length-le r.submitted past, le-ltb stop (length r.submitted) past))

@@ -4,60 +4,35 @@
 #![tactic(auto)]
 
 ghost use Rattle.std.specs.Prelude.{◌≡◌};
-ghost use Rattle.clock.specs.AnsweredOn.{updated_by, answered_on};
+ghost use Rattle.ledger.specs.ActivesLaws.{asked_of};
+ghost use Rattle.clock.specs.AnsweredOn.{has_updated, answered_on};
 ghost use Rattle.clock.specs.Tick.{due_at, is_due, passed, first_open, tick_on};
 
-use ledger::{Issued, Ledger};
-use room::{Desk, Roles};
-use terms::{Content, PLACES, REQUESTS, Requests, Table, Ticks, UP};
+use ledger::Book;
+use room::Desk;
+use terms::{Content, PLACES, REQUESTS, Roles, Submissions, UP};
 
 // Whether every active replica's up value is UPDATE of this request with this mark.
-#[tactic(auto, unfolding(crate::specs::AnsweredOn::updated_by, crate::specs::AnsweredOn::has_updated))]
-fn updated(
-    table: &Table,
-    value: u32,
-    request: u32,
-    mark: u32,
-    ledger: &Ledger,
-    issued: &Issued,
-) -> bool
-    ensures { result ≡ updated_by table.now value request mark ledger.now issued.now }
+#[tactic(auto, unfolding(crate::specs::AnsweredOn::has_updated, ledger::specs::ActivesLaws::asked_of))]
+fn updated(roles: &Roles, value: u32, request: u32, mark: u32, book: &Book) -> bool
+    ensures { result ≡ asked_of roles.now.table 0 (has_updated value request mark book.now) }
 {
-    let entries: &[u32] = table;
-    let mut y: usize = 0;
-    while y < entries.len() {
-        if terms::marks_active(entries[y]) {
-            let update = Content::Update(request, mark);
-            if ledger::is_content(ledger, issued, y, UP, value, update) {
-                y = y + 1;
-            } else {
-                return false;
-            }
-        } else {
-            y = y + 1;
-        }
-    }
-    true
+    let update = Content::Update(request, mark);
+    roles.table.iter().enumerate().all(|(y, &number)| {
+        !terms::marks_active(number) || book.is_content(y, UP, value, update)
+    })
 }
 
 // A request is answered when for some value every active replica's up value is the same UPDATE of it, mark included: the leader's.
 #[tactic(auto, unfolding(crate::specs::AnsweredOn::answered_on))]
-pub fn answered(
-    table: &Table,
-    leader: usize,
-    request: u32,
-    ledger: &Ledger,
-    issued: &Issued,
-) -> bool
-    ensures { result ≡ answered_on table.now leader request ledger.now issued.now }
+pub fn answered(roles: &Roles, request: u32, book: &Book) -> bool
+    ensures { result ≡ answered_on roles.now request book.now }
 {
-    let mut value = PLACES as u32;
-    while 0 < value {
-        let mark = ledger::second_at(ledger, issued, leader, UP, value);
-        if updated(table, value, request, mark, ledger, issued) {
+    for value in (1..=PLACES as u32).rev() {
+        let mark = book.second_at(roles.leader, UP, value);
+        if updated(roles, value, request, mark, book) {
             return true;
         }
-        value = value - 1;
     }
     false
 }
@@ -67,7 +42,7 @@ pub fn answered(
 fn due_at(tick: u64, patience: u32) -> u64
     ensures { result ≡ due_at tick patience }
 {
-    std::num::wrapping_add_u64(tick, terms::wide(patience))
+    tick.wrapping_add(u64::from(patience))
 }
 
 // Whether a submission of this tick has waited at least the patience.
@@ -80,25 +55,12 @@ fn is_due(tick: u64, patience: u32, clock: u64) -> bool
 
 // Whether submission i is due and answered.
 #[tactic(auto, unfolding(crate::specs::Tick::passed))]
-fn is_passed(
-    i: usize,
-    clock: u64,
-    roles: Roles,
-    table: &Table,
-    requests: &Requests,
-    ticks: &Ticks,
-    ledger: &Ledger,
-    issued: &Issued,
-) -> bool
-    ensures { result ≡ passed clock roles table.now requests.now ticks.now ledger.now issued.now i }
+fn is_passed(i: usize, clock: u64, roles: &Roles, submissions: &Submissions, book: &Book) -> bool
+    ensures { result ≡ passed clock roles.now submissions.now book.now i }
 {
-    if REQUESTS <= i {
-        return false;
-    }
-    if is_due(ticks[i], roles.patience, clock) {
-        return answered(table, roles.leader, requests[i], ledger, issued);
-    }
-    false
+    i < REQUESTS
+        && is_due(submissions.ticks[i], roles.patience, clock)
+        && answered(roles, submissions.requests[i], book)
 }
 
 // The first submission, of those not known to be answered, that is not both due and answered. Ticks never fall, so that no later one is due
@@ -108,62 +70,43 @@ fn first_open(
     known: usize,
     submitted: usize,
     clock: u64,
-    roles: Roles,
-    table: &Table,
-    requests: &Requests,
-    ticks: &Ticks,
-    ledger: &Ledger,
-    issued: &Issued,
+    roles: &Roles,
+    submissions: &Submissions,
+    book: &Book,
 ) -> usize
-    ensures { result ≡ first_open known submitted clock roles table.now requests.now ticks.now ledger.now issued.now }
+    ensures { result ≡ first_open known submitted clock roles.now submissions.now book.now }
 {
-    let mut i = known;
-    while i < submitted {
-        if is_passed(i, clock, roles, table, requests, ticks, ledger, issued) {
-            i = i + 1;
-        } else {
+    for i in known..submitted {
+        if !is_passed(i, clock, roles, submissions, book) {
             return i;
         }
     }
-    i
+    known.max(submitted)
 }
 
 // Adds the gap. Where nothing was late before and some submission is unanswered and has waited at least the patience, the late tick is that
 // of the earliest such submission plus the patience.
 #[tactic(auto, unfolding(crate::specs::Tick::tick_on, crate::specs::Tick::stops_at))]
-pub fn tick(
-    mut desk: Desk,
-    gap: u32,
-    roles: Roles,
-    table: &Table,
-    requests: &Requests,
-    ticks: &Ticks,
-    ledger: &Ledger,
-    issued: &Issued,
-) -> Desk
-    ensures { result ≡ tick_on desk gap roles table.now requests.now ticks.now ledger.now issued.now }
+pub fn tick(mut desk: Desk, gap: u32, roles: &Roles, submissions: &Submissions, book: &Book) -> Desk
+    ensures { result ≡ tick_on desk gap roles.now submissions.now book.now }
 {
-    let clock = std::num::wrapping_add_u64(desk.clock, terms::wide(gap));
-    desk.clock = clock;
-    if desk.late {
-        return desk;
-    }
-    let n = desk.submitted;
-    let k = first_open(
-        desk.known, n, clock, roles, table, requests, ticks, ledger, issued,
-    );
-    desk.known = k;
-    if n <= k {
-        return desk;
-    }
-    if REQUESTS <= k {
-        return desk;
-    }
-    if is_due(ticks[k], roles.patience, clock) {
-        let due = due_at(ticks[k], roles.patience);
-        desk.late = true;
-        desk.due = due;
-        return desk;
+    desk.clock = desk.clock.wrapping_add(u64::from(gap));
+    if desk.late.is_none() {
+        let k = first_open(
+            desk.known,
+            desk.submitted,
+            desk.clock,
+            roles,
+            submissions,
+            book,
+        );
+        desk.known = k;
+        if k < desk.submitted
+            && k < REQUESTS
+            && is_due(submissions.ticks[k], roles.patience, desk.clock)
+        {
+            desk.late = Some(due_at(submissions.ticks[k], roles.patience));
+        }
     }
     desk
 }

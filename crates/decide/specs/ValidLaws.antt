@@ -1,9 +1,9 @@
 -- On a room's own parts, within its bounds: what a counter's value is bound to, and that validity is the rules'. Assumes nothing.
-use Rattle.std.specs.Prelude.{◌≡◌, refl, Bool, true, false, ◌&&◌, List, [], ◌∷◌, ℕ, zero, suc, ◌≤◌, ◌<◌, take, get_or, eqb}
+use Rattle.std.specs.Prelude.{◌≡◌, refl, Bool, true, false, ◌&&◌, List, [], ◌∷◌, ℕ, zero, suc, ◌≤◌, ◌<◌, take, get_or, eqb, Option, None, Some}
 use Rattle.std.proofs.Common.{ap, arith, le-leb, le-ltb}
-use Rattle.std.proofs.Math.Option.{Option, none, some}
 use Rattle.std.proofs.Math.ListN.{length}
 use borrow.Author.Tests.{lt-leb}
+use Rattle.terms.specs.Lent.{no_history}
 use Rattle.terms.specs.Limits.{replicas_max, ag, up, names, requests_max, histories_max}
 use Rattle.terms.specs.Lists.{nth, holds, distinct, all_of, all_below}
 use Rattle.terms.specs.ListLaws.{nth-lt, no_way}
@@ -16,12 +16,12 @@ use Rattle.rules.proofs.Laws.TableLaws.{actives_ext}
 use Rattle.rules.specs.Room.{Room, Filing}
 use Rattle.rules.specs.Reading.{content_at, is_content}
 use Rattle.rules.specs.Switching.{is_committed, is_settled_by, is_valid, is_valid_filing}
-use Rattle.ledger.specs.LedgerLayout.{lay_ledger, lay_issued}
+use Rattle.ledger.specs.LedgerLayout.{lay_book}
 use Rattle.ledger.specs.Ledger.{content_on}
 use Rattle.ledger.specs.LedgerLaws as Ledger
 use Rattle.replica.specs.RecordLaws.{actives_laid}
-use Rattle.room.specs.Layout.{lay_table, lay_heads, lay_lists}
-use Rattle.room.specs.LayoutLaws.{head_laid, list_laid}
+use Rattle.room.specs.Layout.{lay_table, lay_roles, history_of, lay_histories}
+use Rattle.room.specs.LayoutLaws.{history_laid}
 use Rattle.rules.proofs.Agreement.Invariant.{FilingBounds}
 use Rattle.room.specs.Bounds.{Bounds}
 use Rattle.room.specs.GoodLaws.{size_max, leader_max, switch_max}
@@ -40,23 +40,23 @@ and_none false = refl
 
 -- ---- looking up
 
-past_end : {A : Type 0} (l : List A) (i : ℕ) → nth l i ≡ none → length l ≤ i
+past_end : {A : Type 0} (l : List A) (i : ℕ) → nth l i ≡ None → length l ≤ i
 past_end [] i e = omega arith
 past_end (x ∷ l) zero e = no_way (cc)
 past_end (x ∷ l) (suc i) e = omega (arith, past_end l i e)
 
 module _ (kit : Kit) (r : Room) (b : Bounds kit r) where
   pub content_laid : (x name value : ℕ) → x < replicas_max → name < names
-      → content_on (lay_ledger r.counter) (lay_issued r.counter) x name value ≡ content_at (r.counter x name) value
+      → content_on (lay_book r.counter) x name value ≡ content_at (r.counter x name) value
   content_laid x name value hx hn = Ledger.content_laid r.counter x name hx hn value (b.counter_max x name)
 
   -- ---- one history
 
   module _ (list : List ℕ) where
     committed_laid : (i : ℕ)
-        → is_committed_on (lay_ledger r.counter) (lay_issued r.counter) kit.leader (switch_leader kit) (pad requests_max list) i
+        → is_committed_on (lay_book r.counter) (lay_roles kit) (pad requests_max list) i
         ≡ is_committed kit r list (suc i)
-    unfolding is_committed_on is_committed_at is_committed
+    unfolding is_committed_on is_committed_at is_committed lay_roles
     committed_laid i =
         rw (
           get_or_pad requests_max list i,
@@ -66,9 +66,9 @@ module _ (kit : Kit) (r : Room) (b : Bounds kit r) where
         )
 
     settled_laid : (i : ℕ) → i < length list
-        → is_settled_on (lay_ledger r.counter) (lay_issued r.counter) (lay_table kit) kit.leader (switch_leader kit) (pad requests_max list) i
+        → is_settled_on (lay_book r.counter) (lay_roles kit) (pad requests_max list) i
         ≡ is_settled_by kit r list (suc i)
-    unfolding is_settled_on is_settled_at is_settled_by is_common_to actives lay_table
+    unfolding is_settled_on is_settled_at is_settled_by is_common_to actives lay_roles lay_table
     settled_laid i h =
         rw (
           get_or_pad requests_max list i,
@@ -88,8 +88,7 @@ module _ (kit : Kit) (r : Room) (b : Bounds kit r) where
       && (all_of filing.list (λ request. holds request r.submitted) && distinct filing.list))
 
   borne_out_laid : (filing : Filing) → FilingBounds filing
-      → is_borne_out (lay_ledger r.counter) (lay_issued r.counter) (lay_table kit) kit.leader (switch_leader kit) r.submitted
-      (pad requests_max filing.list) (length filing.list) filing.k filing.j
+      → is_borne_out (lay_book r.counter) (lay_roles kit) r.submitted (history_of (Some filing))
       ≡ is_borne filing
   unfolding is_borne_out is_listed is_borne
   borne_out_laid filing f =
@@ -108,20 +107,20 @@ module _ (kit : Kit) (r : Room) (b : Bounds kit r) where
   few_histories : length r.histories ≤ histories_max
   few_histories = omega (arith, b.histories_filed, b.filed_max_lem)
 
-  filed_laid : (h p q : ℕ) (filing : Filing) → nth r.histories h ≡ some filing
-      → is_filed_at (lay_ledger r.counter) (lay_issued r.counter) (lay_table kit) kit.leader (switch_leader kit) r.submitted
-      (lay_heads r.histories) (lay_lists r.histories) (length r.histories) h p q
+  filed_laid : (h p q : ℕ) (filing : Filing) → nth r.histories h ≡ Some filing
+      → is_filed_at (lay_book r.counter) (lay_roles kit) r.submitted
+      (lay_histories r.histories) (length r.histories) h p q
       ≡ (eqb p (suc filing.k) && (eqb q (suc filing.j) && is_borne filing))
   unfolding is_filed_at
   filed_laid h p q filing e =
       let below : h < length r.histories = nth-lt r.histories h e in
       let eight : h < histories_max = omega (arith, few_histories) in
-      rw (lt-leb (length r.histories) h below, lt-leb histories_max h eight, head_laid r.histories h eight, list_laid r.histories h eight, e)
+      rw (lt-leb (length r.histories) h below, lt-leb histories_max h eight, history_laid r.histories h no_history eight, e)
       (rw (borne_out_laid filing (b.filings h filing e)))
 
-  unfiled_laid : (h p q : ℕ) → nth r.histories h ≡ none
-      → is_filed_at (lay_ledger r.counter) (lay_issued r.counter) (lay_table kit) kit.leader (switch_leader kit) r.submitted
-      (lay_heads r.histories) (lay_lists r.histories) (length r.histories) h p q
+  unfiled_laid : (h p q : ℕ) → nth r.histories h ≡ None
+      → is_filed_at (lay_book r.counter) (lay_roles kit) r.submitted
+      (lay_histories r.histories) (length r.histories) h p q
       ≡ false
   unfolding is_filed_at
   unfiled_laid h p q e = rw (le-leb (length r.histories) h (past_end r.histories h e))
@@ -129,22 +128,22 @@ module _ (kit : Kit) (r : Room) (b : Bounds kit r) where
   by_filing : (h p q : ℕ) (o : Option Filing) → nth r.histories h ≡ o
       → (is_content (content_at (r.counter (switch_leader kit) ag) p) (Content.History h)
       && (is_content (content_at (r.counter (switch_leader kit) up) q) (Content.History h)
-      && is_filed_at (lay_ledger r.counter) (lay_issued r.counter) (lay_table kit) kit.leader (switch_leader kit) r.submitted
-      (lay_heads r.histories) (lay_lists r.histories) (length r.histories) h p q))
+      && is_filed_at (lay_book r.counter) (lay_roles kit) r.submitted
+      (lay_histories r.histories) (length r.histories) h p q))
       ≡ is_valid_filing kit r p q h o
   unfolding is_valid is_borne
-  by_filing h p q none e =
+  by_filing h p q None e =
       let first = is_content (content_at (r.counter (switch_leader kit) ag) p) (Content.History h) in
       let second = is_content (content_at (r.counter (switch_leader kit) up) q) (Content.History h) in
       rw (unfiled_laid h p q e, and_none second) (and_none first)
-  by_filing h p q (some filing) e = rw (filed_laid h p q filing e)
+  by_filing h p q (Some filing) e = rw (filed_laid h p q filing e)
 
   -- the rules' validity
   pub valid_laid : (h p q : ℕ)
-      → is_valid_on (lay_ledger r.counter) (lay_issued r.counter) (lay_table kit) kit.leader (switch_leader kit) r.submitted
-      (lay_heads r.histories) (lay_lists r.histories) (length r.histories) h p q
+      → is_valid_on (lay_book r.counter) (lay_roles kit) r.submitted
+      (lay_histories r.histories) (length r.histories) h p q
       ≡ is_valid_filing kit r p q h (nth r.histories h)
-  unfolding is_valid_on
+  unfolding is_valid_on lay_roles
   valid_laid h p q =
       rw (content_laid (switch_leader kit) ag p (switch_max b.good) (omega arith), content_laid (switch_leader kit) up q (switch_max b.good) (omega arith))
       (by_filing h p q (nth r.histories h) refl)

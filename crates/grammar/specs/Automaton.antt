@@ -1,20 +1,18 @@
 -- The judge, one number at a time: what it says in each phase and what it knows afterwards. In order: what it knows, part by part, and in the
 -- code's one flat record; a step; the phases of the settings, of the table and of the events; the judge (`feed_of`, `fresh`). That it is the plain
 -- parser of Parser is proved in Judging. Assumes nothing.
-use Rattle.std.specs.Prelude.{Bool, false, ◌||◌, ◌&&◌, [], ◌∷◌, ℕ, ◌+◌, ◌-◌, ◌/◌, ltb, leb, eqb, length}
+use Rattle.std.specs.Prelude.{◌≡◌, Option, Some, None, Result, Ok, Err, Bool, false, ◌||◌, ◌&&◌, List, [], ◌∷◌, ℕ, ◌+◌, ◌-◌, ◌/◌, ltb, leb, eqb, length, get_or, set}
 use Rattle.terms.specs.Limits.{replicas, faults_max, ticks_max, events_max}
 use Rattle.terms.specs.Lists.{pick, within}
 use Rattle.terms.specs.Kit.{marks_active, marks_faulty, is_table_number, is_request}
 use Rattle.terms.specs.Numbers.{kind_of}
 use Rattle.terms.specs.declared.Kind.{Kind}
-use Rattle.terms.specs.declared.KindChoice.{KindChoice}
-use Rattle.terms.specs.declared.KitAnswer.{KitAnswer}
-use Rattle.terms.specs.declared.KitAnswer.TheVariants.{WrongSettings, WrongEvent, Excess}
+use Rattle.terms.specs.declared.KitRefusal.{KitRefusal}
+use Rattle.terms.specs.declared.KitRefusal.TheVariants.{WrongSettings, WrongEvent, Excess}
 use Rattle.grammar.specs.Operands.{operands_of, operand_of, fits, filed_by}
 use Rattle.grammar.specs.declared.Phase.{Phase}
-use Rattle.grammar.specs.declared.Said.{Said}
+use Rattle.grammar.specs.declared.Progress.{Progress}
 use Rattle.grammar.specs.declared.Judge.{Judge}
-use Rattle.grammar.specs.declared.Step.{Step}
 
 -- ---- what the judge knows, part by part
 
@@ -29,9 +27,7 @@ pub record Tally : Type 0 where
 pub record Pending : Type 0 where
   pub kind : Kind
   pub at : ℕ
-  pub first : ℕ
-  pub second : ℕ
-  pub third : ℕ
+  pub ops : List ℕ
 
 -- 2f+1; how many replicas of the table are left at the leader's; the table; how many events are left, the one at hand counted; that
 -- event; how many requests of kind 8 are left
@@ -42,6 +38,10 @@ pub record State : Type 0 where
   pub left : ℕ
   pub pending : Pending
   pub requests : ℕ
+
+-- what is said of a number: more has to come, the kit is complete, or it is refused
+abbrev pub Said : Type 0
+Said = Result Progress KitRefusal
 
 -- what is said, and what is known afterwards
 pub record Move : Type 0 where
@@ -64,11 +64,14 @@ judge_of phase s =
       active = s.tally.active;
       faulty = s.tally.faulty;
       left = s.left;
-      first = s.pending.first;
-      second = s.pending.second;
-      third = s.pending.third;
+      ops = s.pending.ops;
       requests = s.requests;
     }
+
+-- what is said, and the judge afterwards
+pub record Step : Type 0 where
+  pub said : Said
+  pub judge : Judge
 
 abbrev pub step_of : Move → Step
 step_of m = record { said = m.said; judge = judge_of m.phase m.state }
@@ -77,7 +80,7 @@ abbrev pub tally_of : Judge → Tally
 tally_of j = record { coming = j.coming; active = j.active; faulty = j.faulty; leads = j.leads }
 
 abbrev pub pending_of : Judge → Pending
-pending_of j = record { kind = j.kind; at = j.at; first = j.first; second = j.second; third = j.third }
+pending_of j = record { kind = j.kind; at = j.at; ops = j.ops }
 
 abbrev pub state_of : Judge → State
 state_of j =
@@ -93,13 +96,18 @@ state_of j =
 -- ---- a step
 
 abbrev pub more_of : Phase → State → Move
-more_of phase s = record { said = Said.More; phase = phase; state = s }
+more_of phase s = record { said = Ok Progress.More; phase = phase; state = s }
 
 abbrev pub done_of : State → Move
-done_of s = record { said = Said.Done; phase = Phase.Over; state = s }
+done_of s = record { said = Ok Progress.Done; phase = Phase.Over; state = s }
 
-abbrev pub refused_of : KitAnswer → Phase → State → Move
-refused_of answer phase s = record { said = Said.Refused answer; phase = phase; state = s }
+abbrev pub refused_of : KitRefusal → Phase → State → Move
+refused_of refusal phase s = record { said = Err refusal; phase = phase; state = s }
+
+-- a move that was made: what was said, and the judge afterwards
+pub record Made (m : Move) (j : Judge) (r : Said) : Type 0 where
+  pub said : r ≡ m.said
+  pub judge : j ≡ judge_of m.phase m.state
 
 -- a state with one of its parts anew
 abbrev pub with_size : State → ℕ → State
@@ -183,7 +191,7 @@ files_goes s requests = pick (eqb requests 0) (completed s) (more_of Phase.Reque
 
 -- the operands are complete
 unfoldable pub filing : State → Move
-filing s = files_goes s (filed_by s.pending.kind s.pending.second s.pending.third)
+filing s = files_goes s (filed_by s.pending.kind (get_or s.pending.ops 1 0) (get_or s.pending.ops 2 0))
 
 -- the next operand, if there is one
 unfoldable pub operand_goes : State → Move
@@ -191,31 +199,24 @@ operand_goes s = pick (ltb s.pending.at (length (operands_of s.pending.kind))) (
 
 -- an event of a kind, with no operand yet
 abbrev pub begun : Kind → Pending
-begun kind = record { kind = kind; at = 0; first = 0; second = 0; third = 0 }
+begun kind = record { kind = kind; at = 0; ops = 0 ∷ 0 ∷ 0 ∷ [] }
 
-abbrev pub kind_goes : State → KindChoice → Move
-kind_goes s KindChoice.Refused = refused_of WrongEvent Phase.Kind s
-kind_goes s (KindChoice.Kind kind) = operand_goes (with_pending s (begun kind))
+abbrev pub kind_goes : State → Option Kind → Move
+kind_goes s None = refused_of WrongEvent Phase.Kind s
+kind_goes s (Some kind) = operand_goes (with_pending s (begun kind))
 
 unfoldable pub at_kind : State → ℕ → Move
 at_kind s n = kind_goes s (kind_of n)
 
 -- one more operand; the first three are kept
 abbrev pub kept : Pending → ℕ → Pending
-kept p n =
-    record {
-      kind = p.kind;
-      at = p.at + 1;
-      first = pick (eqb p.at 0) n p.first;
-      second = pick (eqb p.at 1) n p.second;
-      third = pick (eqb p.at 2) n p.third;
-    }
+kept p n = record { kind = p.kind; at = p.at + 1; ops = set p.ops p.at n }
 
 -- whether the next number is what the table has at its place
 abbrev pub operand_right : State → ℕ → Bool
 operand_right s n =
     ltb s.pending.at (length (operands_of s.pending.kind))
-    && fits (operand_of s.pending.kind s.pending.at) s.size (s.pending.first ∷ s.pending.second ∷ s.pending.third ∷ []) n
+    && fits (operand_of s.pending.kind s.pending.at) s.size s.pending.ops n
 
 unfoldable pub at_operand : State → ℕ → Move
 at_operand s n =

@@ -2,32 +2,31 @@
 -- (`run`) and the parser's answer part by part (`after`); a phase that goes by one test (`phase`); from the inside outwards the phases of the
 -- requests, the operands, an event, the events, the table (its tally counts what the parser counts, `tally_is`) and the kit; last, with which
 -- answers the judge refuses (`refuses_fault`). Assumes nothing.
-use Rattle.std.specs.Prelude.{◌≡◌, Bool, false, ◌&&◌, ◌||◌, eqb, ◌⊎◌, List, [], ◌∷◌, ◌++◌, ℕ, zero, suc, ◌+◌, ◌-◌, ◌/◌, ◌≤◌, ◌<◌}
+use Rattle.std.specs.Prelude.{Option, Some, None, Ok, Err, ◌≡◌, Bool, false, ◌&&◌, ◌||◌, eqb, ◌⊎◌, List, [], ◌∷◌, ◌++◌, ℕ, zero, suc, ◌+◌, ◌-◌, ◌/◌, ◌≤◌, ◌<◌}
 use Rattle.std.proofs.Common.{◌∙◌, add-one, zero-add, inl, inr, arith, lt-ltb, le-ltb, eq-eqb, ne_eqb, ltb-true, leb-true}
 use Rattle.std.proofs.Math.Path.{refl, sym, ap}
 use Rattle.std.proofs.Math.Bool.{true}
 use borrow.Author.Tests.{lt-leb}
-use Rattle.std.proofs.Math.Dec.{leb, ltb, eqb-suc-suc}
-use Rattle.std.proofs.Math.ListN.{get_or, length, length-append}
+use Rattle.std.proofs.Math.Dec.{leb, ltb}
+use Rattle.std.proofs.Math.ListN.{get_or, set, length, length-append}
 use Rattle.std.proofs.lemmas.List.{get_or_at}
 use Rattle.std.proofs.Math.Seq.{append_snoc}
 use Rattle.terms.specs.Limits.{replicas, faults_max, ticks_max, events_max}
 use Rattle.terms.specs.Lists.{pick, within, count_of}
 use Rattle.terms.specs.ListLaws.{split, and_r, no_way}
 use Rattle.terms.specs.Kit.{Kit, marks_active, marks_faulty, is_table_number, is_request}
-use Rattle.terms.specs.Numbers.{kind_of}
+use Rattle.terms.specs.Numbers.{kind_of, KitAnswer, Accepted}
 use Rattle.terms.specs.declared.Kind.{Kind}
-use Rattle.terms.specs.declared.KindChoice.{KindChoice}
-use Rattle.terms.specs.declared.KitAnswer.{KitAnswer}
-use Rattle.terms.specs.declared.KitAnswer.TheVariants.{Accepted, Cut, WrongSettings, WrongEvent, Excess}
+use Rattle.terms.specs.declared.KitRefusal.{KitRefusal}
+use Rattle.terms.specs.declared.KitRefusal.TheVariants.{Cut, WrongSettings, WrongEvent, Excess}
 use Rattle.grammar.specs.Operands.{operands_of, operand_of, fits, filed_by}
 use Rattle.grammar.specs.Parser.{Parsed, Refusal, Read, number, and_then, several, alone, operands, event_after, kind_after, entry, table_right, judged, parse, answer_of, kit_answer}
 use Rattle.grammar.specs.ParserLaws.{table_reads}
-use Rattle.grammar.specs.Automaton.{Tally, Pending, State, Move, judge_of, step_of, state_of, fresh_state, more_of, done_of, refused_of, with_size, with_turn, with_tally, with_left, with_pending, with_requests, at_f, at_leader, empty_tally, at_patience, plus_one, tallied, tally_right, table_done, at_table, at_count, at_gap, completed, files_goes, filing, operand_goes, begun, kind_goes, at_kind, kept, operand_right, at_operand, at_request, in_phase, feed_of, fresh}
+use Rattle.grammar.specs.Automaton.{Tally, Pending, State, Said, Move, judge_of, step_of, state_of, fresh_state, more_of, done_of, refused_of, with_size, with_turn, with_tally, with_left, with_pending, with_requests, at_f, at_leader, empty_tally, at_patience, plus_one, tallied, tally_right, table_done, at_table, at_count, at_gap, completed, files_goes, filing, operand_goes, begun, kind_goes, at_kind, kept, operand_right, at_operand, at_request, in_phase, feed_of, fresh}
 use Rattle.grammar.specs.declared.operands.Operand.{Operand}
 use Rattle.grammar.specs.declared.operands.Operand.TheVariants.{Any, Replica, Name, Content, B, Request, K, E}
 use Rattle.grammar.specs.declared.Phase.{Phase}
-use Rattle.grammar.specs.declared.Said.{Said}
+use Rattle.grammar.specs.declared.Progress.{Progress}
 use Rattle.grammar.specs.declared.Judge.{Judge}
 
 -- ---- the judge, fed a list
@@ -35,15 +34,15 @@ use Rattle.grammar.specs.declared.Judge.{Judge}
 -- after "done": numbers that are left are too many
 abbrev pub ended : List ℕ → KitAnswer
 ended [] = Accepted
-ended (n ∷ ns) = Excess
+ended (n ∷ ns) = Err Excess
 
 abbrev pub goes : Said → List ℕ → KitAnswer → KitAnswer
-goes Said.More ns later = later
-goes Said.Done ns later = ended ns
-goes (Said.Refused answer) ns later = answer
+goes (Ok Progress.More) ns later = later
+goes (Ok Progress.Done) ns later = ended ns
+goes (Err refusal) ns later = Err refusal
 
 abbrev pub run : List ℕ → Judge → KitAnswer
-run [] j = Cut
+run [] j = Err Cut
 run (n ∷ ns) j = goes (feed_of j n).said ns (run ns (feed_of j n).judge)
 
 abbrev heard : Move → List ℕ → KitAnswer
@@ -55,7 +54,7 @@ on phase s = judge_of phase s
 -- ---- the parser's answer, part by part
 
 abbrev after : {A : Type 0} → Parsed A → (A → List ℕ → KitAnswer) → KitAnswer
-after (Refusal fault) go = fault
+after (Refusal fault) go = Err fault
 after (Read a ns) go = go a ns
 
 answer_after : {A : Type 0} (p : Parsed A) → answer_of p ≡ after p (λ a. ended)
@@ -74,7 +73,7 @@ after_ext (Read a ns) κ κ' e = e a ns refl
 
 -- ---- a phase that goes by one test
 
-module _ {A : Type 0} (j : Judge) (test : ℕ → Bool) (fault : KitAnswer) (step : ℕ → Move)
+module _ {A : Type 0} (j : Judge) (test : ℕ → Bool) (fault : KitRefusal) (step : ℕ → Move)
     (feeds : (n : ℕ) → feed_of j n ≡ step_of (pick (test n) (step n) (refused_of fault j.phase (state_of j))))
     (go : ℕ → List ℕ → Parsed A) (κ : A → List ℕ → KitAnswer)
     (on-so : (n : ℕ) (ns : List ℕ) → test n ≡ true → heard (step n) ns ≡ after (go n ns) κ) where
@@ -108,21 +107,25 @@ module _ (s : State) (κ : List ℕ → KitAnswer) (rest-so : (x : ℕ) (ns : Li
 
 -- ---- the operands
 
--- the first three operands are kept
-abbrev read_so_far : Kind → List ℕ → Pending
-read_so_far kind ops = record { kind = kind; at = length ops; first = get_or ops 0 0; second = get_or ops 1 0; third = get_or ops 2 0 }
+-- the first three operands are kept, 0 for those that did not come yet
+abbrev first_three : List ℕ → List ℕ
+first_three ops = get_or ops 0 0 ∷ get_or ops 1 0 ∷ get_or ops 2 0 ∷ []
 
-get_or-snoc : (ops : List ℕ) (n i : ℕ) → get_or (ops ++ (n ∷ [])) i 0 ≡ pick (eqb (length ops) i) n (get_or ops i 0)
-get_or-snoc [] n zero = refl
-get_or-snoc [] n (suc i) = simp (ne_eqb 0 (suc i) (λ e. omega arith))
-get_or-snoc (x ∷ ops) n zero = simp (ne_eqb (suc (length ops)) 0 (λ e. omega arith))
-get_or-snoc (x ∷ ops) n (suc i) = rw (eqb-suc-suc (length ops) i) (get_or-snoc ops n i)
+abbrev read_so_far : Kind → List ℕ → Pending
+read_so_far kind ops = record { kind = kind; at = length ops; ops = first_three ops }
+
+-- one more is kept at its place, if it is one of the three
+set_snoc : (ops : List ℕ) (n : ℕ) → set (first_three ops) (length ops) n ≡ first_three (ops ++ (n ∷ []))
+set_snoc [] n = refl
+set_snoc (a ∷ []) n = refl
+set_snoc (a ∷ b ∷ []) n = refl
+set_snoc (a ∷ b ∷ c ∷ ops) n = refl
 
 kept_snoc : (kind : Kind) (ops : List ℕ) (n : ℕ) → kept (read_so_far kind ops) n ≡ read_so_far kind (ops ++ (n ∷ []))
-kept_snoc kind ops n = rw (get_or-snoc ops n 0, get_or-snoc ops n 1, get_or-snoc ops n 2, length-append ops (n ∷ []))
+kept_snoc kind ops n = rw (set_snoc ops n, length-append ops (n ∷ []))
 
 -- no operand looks at more than the first three
-three : (o : Operand) (size : ℕ) (ops : List ℕ) (n : ℕ) → fits o size (get_or ops 0 0 ∷ get_or ops 1 0 ∷ get_or ops 2 0 ∷ []) n ≡ fits o size ops n
+three : (o : Operand) (size : ℕ) (ops : List ℕ) (n : ℕ) → fits o size (first_three ops) n ≡ fits o size ops n
 three Any size ops n = refl
 three Replica size ops n = refl
 three Name size ops n = refl
@@ -167,10 +170,10 @@ module _ (s : State) (kind : Kind) where
 -- whatever follows the event goes by κ, whatever was read of it
 module _ (s : State) (κ : List ℕ → KitAnswer)
     (rest-so : (p : Pending) (x : ℕ) (ns : List ℕ) → heard (completed (with_requests (with_pending s p) x)) ns ≡ κ ns) where
-  kind_goes_lem : (gap : ℕ) (choice : KindChoice) (ns : List ℕ) → heard (kind_goes s choice) ns ≡ after (event_after s.size gap choice ns) (λ e. κ)
+  kind_goes_lem : (gap : ℕ) (choice : Option Kind) (ns : List ℕ) → heard (kind_goes s choice) ns ≡ after (event_after s.size gap choice ns) (λ e. κ)
   unfolding filing
-  kind_goes_lem gap KindChoice.Refused ns = refl
-  kind_goes_lem gap (KindChoice.Kind kind) ns =
+  kind_goes_lem gap None ns = refl
+  kind_goes_lem gap (Some kind) ns =
       operands_phase s kind (operands_of kind) [] [] ns refl refl
       ∙ after_ext (operands s.size (operands_of kind) [] ns) _ _ (λ ops ns₁ e.
       files (reading s kind ops) κ (λ x ms. rest-so (read_so_far kind ops) x ms) (filed_by kind (get_or ops 1 0) (get_or ops 2 0)) ns₁
@@ -363,11 +366,11 @@ judge_parses ns =
 
 -- ---- what the judge refuses with
 
-abbrev pub IsFault : KitAnswer → Type 0
+abbrev pub IsFault : KitRefusal → Type 0
 IsFault a = (a ≡ WrongSettings) ⊎ ((a ≡ WrongEvent) ⊎ (a ≡ Excess))
 
 pub record Refuses (t : Move) : Type 0 where
-  pub only : (a : KitAnswer) → t.said ≡ Said.Refused a → IsFault a
+  pub only : (a : KitRefusal) → t.said ≡ Err a → IsFault a
 
 refuses_pick : (b : Bool) (x y : Move) → Refuses x → Refuses y → Refuses (pick b x y)
 refuses_pick true x y f g = f
@@ -397,11 +400,11 @@ refuses_goes : (s : State) → Refuses (operand_goes s)
 unfolding operand_goes filing
 refuses_goes s =
     refuses_pick (ltb s.pending.at (length (operands_of s.pending.kind))) _ _ (refuses_more _ _)
-    (refuses_pick (eqb (filed_by s.pending.kind s.pending.second s.pending.third) 0) _ _ (refuses_completed s) (refuses_more _ _))
+    (refuses_pick (eqb (filed_by s.pending.kind (get_or s.pending.ops 1 0) (get_or s.pending.ops 2 0)) 0) _ _ (refuses_completed s) (refuses_more _ _))
 
-refuses_kind : (s : State) (choice : KindChoice) → Refuses (kind_goes s choice)
-refuses_kind s KindChoice.Refused = refuses_event _ _
-refuses_kind s (KindChoice.Kind kind) = refuses_goes (with_pending s (begun kind))
+refuses_kind : (s : State) (choice : Option Kind) → Refuses (kind_goes s choice)
+refuses_kind s None = refuses_event _ _
+refuses_kind s (Some kind) = refuses_goes (with_pending s (begun kind))
 
 refuses_in : (p : Phase) (s : State) (n : ℕ) → Refuses (in_phase p s n)
 unfolding at_f at_leader at_patience at_table table_done at_count at_gap at_kind at_operand at_request
@@ -422,6 +425,6 @@ refuses_in Phase.Request s n =
     refuses_pick (is_request n) _ _ (refuses_pick (leb s.requests 1) _ _ (refuses_completed s) (refuses_more _ _)) (refuses_event _ _)
 refuses_in Phase.Over s n = refuses_excess _ _
 
-pub refuses_fault : (j : Judge) (n : ℕ) (a : KitAnswer) → (feed_of j n).said ≡ Said.Refused a → IsFault a
+pub refuses_fault : (j : Judge) (n : ℕ) (a : KitRefusal) → (feed_of j n).said ≡ Err a → IsFault a
 unfolding feed_of
 refuses_fault j n = (refuses_in j.phase (state_of j) n).only

@@ -1,11 +1,11 @@
 -- The operands of each kind of event, as document 01's table has them, and what each has to be. Assumes nothing.
-use Rattle.std.specs.Prelude.{Bool, true, ◌||◌, List, [], ◌∷◌, ℕ, ◌+◌, eqb, leb, ltb, get_or}
+use Rattle.std.specs.Prelude.{Option, Some, None, Bool, true, ◌||◌, List, [], ◌∷◌, ℕ, ◌+◌, eqb, leb, ltb, get_or}
 use Rattle.terms.specs.Limits.{name_max, requests_max}
+use Rattle.terms.specs.declared.Content as Said
 use Rattle.terms.specs.Lists.{pick, within}
 use Rattle.terms.specs.Kit.{is_request}
 use Rattle.terms.specs.Numbers.{content_of}
 use Rattle.terms.specs.declared.Kind.{Kind}
-use Rattle.terms.specs.declared.ContentChoice.{ContentChoice}
 use Rattle.terms.specs.declared.Event.{Event}
 use Rattle.grammar.specs.declared.operands.Operand.{Operand}
 use Rattle.grammar.specs.declared.operands.Operand.TheVariants.{Any, Replica, Name, Content, B, Request, K, E}
@@ -61,9 +61,9 @@ filed_by Kind.File k e = filed_of k e
 -- ---- the event that the operands make
 
 -- numbers that are no content make nothing
-abbrev pub issue_of : ℕ → ℕ → ContentChoice → Event
-issue_of replica name (ContentChoice.Content c) = Event.Issue replica name c
-issue_of replica name ContentChoice.Refused = Event.Idle
+abbrev pub issue_of : ℕ → ℕ → Option Said.Content → Event
+issue_of replica name (Some c) = Event.Issue replica name c
+issue_of replica name None = Event.Idle
 
 module _ (ops : List ℕ) where
   abbrev op : ℕ → ℕ

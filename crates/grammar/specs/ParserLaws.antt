@@ -1,22 +1,19 @@
 -- The lists of numbers that Parser reads as a kit are the numbers of document 01's kits, and no others. In order: what a reading that came to its
 -- end has read, and `Reads` (exactly the numbers of the good things) for a number by itself and for so many things; the operands of a kind and its
--- event; a kit (`kit_reads`), and the laws by which others know it; nothing is refused with "accepted" (`answer_accepted`). Assumes nothing.
-use Rattle.std.specs.Prelude.{◌≡◌, refl, Bool, true, false, ◌||◌, List, [], ◌∷◌, ◌++◌, ℕ, zero, suc, ◌+◌, ◌-◌, ◌≤◌, ◌<◌, eqb, leb, ltb, get_or}
+-- event; a kit (`kit_reads`), and the laws by which others know it (the last: `answer_accepted`). Assumes nothing.
+use Rattle.std.specs.Prelude.{Option, None, ◌≡◌, refl, Bool, true, false, ◌||◌, List, [], ◌∷◌, ◌++◌, ℕ, zero, suc, ◌+◌, ◌-◌, ◌≤◌, ◌<◌, eqb, leb, ltb, get_or, Some}
 use Rattle.std.proofs.Common.{sym, ap, ◌∙◌, append_assoc, append-nil, arith, ltb-true, leb-true, eqb-true, lt-ltb, le-leb, eq-eqb, ne_eqb}
-use Rattle.std.proofs.Math.Option.{some}
 use Rattle.std.proofs.Math.ListN.{length}
 use Rattle.terms.specs.Limits.{replicas, faults_max, ticks_max, events_max, requests_max}
 use Rattle.terms.specs.Lists.{within, count_of, nth}
 use Rattle.terms.specs.ListLaws.{split, no_way, and_l, and_r, all_of_at, all_of_from}
 use Rattle.terms.specs.Kit.{Kit, Entry, GoodKit, GoodEntry, GoodEvent, marks_active, marks_faulty, is_table_number, is_request, kit_numbers, entry_numbers, entries_numbers, event_numbers}
-use Rattle.terms.specs.Numbers.{kind_of, kind_number, content_of, content_numbers}
+use Rattle.terms.specs.Numbers.{kind_of, kind_number, content_of, content_numbers, Accepted}
 use Rattle.terms.specs.declared.Content.{Content}
-use Rattle.terms.specs.declared.ContentChoice.{ContentChoice}
 use Rattle.terms.specs.declared.Event.{Event}
 use Rattle.terms.specs.declared.Kind.{Kind}
-use Rattle.terms.specs.declared.KindChoice.{KindChoice}
-use Rattle.terms.specs.declared.KitAnswer.{KitAnswer}
-use Rattle.terms.specs.declared.KitAnswer.TheVariants.{Accepted, WrongSettings, WrongEvent}
+use Rattle.terms.specs.declared.KitRefusal.{KitRefusal}
+use Rattle.terms.specs.declared.KitRefusal.TheVariants.{WrongSettings, WrongEvent}
 use Rattle.grammar.specs.Operands.{operands_of, fits, filed_by, filed_of, event_of, uses_b}
 use Rattle.grammar.specs.declared.operands.Operand.{Operand}
 use Rattle.grammar.specs.Parser.{Parsed, Refusal, Read, number, and_then, several, alone, operands, event_after, kind_after, entry, table_right, judged, parse, answer_of, kit_answer}
@@ -24,7 +21,7 @@ use Rattle.grammar.specs.Parser.{Parsed, Refusal, Read, number, and_then, severa
 -- ---- what a reading that came to its end has read
 
 module _ {A : Type 0} {a : A} {rest : List ℕ} where
-  pub number_inv : (ns : List ℕ) (test : ℕ → Bool) (fault : KitAnswer) (go : ℕ → List ℕ → Parsed A) → number ns test fault go ≡ Read a rest
+  pub number_inv : (ns : List ℕ) (test : ℕ → Bool) (fault : KitRefusal) (go : ℕ → List ℕ → Parsed A) → number ns test fault go ≡ Read a rest
       → (n : ℕ) × (later : List ℕ) × (ns ≡ n ∷ later) × (test n ≡ true) × (go n later ≡ Read a rest)
   number_inv [] test fault go e = no_way (cc)
   number_inv (n ∷ ns) test fault go e =
@@ -37,7 +34,7 @@ module _ {A : Type 0} {a : A} {rest : List ℕ} where
   and_then_inv (Read b ns) go e = (b, ns, refl, e)
 
   -- the same, going on with what was read
-  pub number_elim : {C : Type 0} (ns : List ℕ) (test : ℕ → Bool) (fault : KitAnswer) (go : ℕ → List ℕ → Parsed A) → number ns test fault go ≡ Read a rest
+  pub number_elim : {C : Type 0} (ns : List ℕ) (test : ℕ → Bool) (fault : KitRefusal) (go : ℕ → List ℕ → Parsed A) → number ns test fault go ≡ Read a rest
       → ((n : ℕ) (later : List ℕ) → ns ≡ n ∷ later → test n ≡ true → go n later ≡ Read a rest → C) → C
   number_elim ns test fault go e then = let r = number_inv ns test fault go e in then r.0 r.1 r.2 r.3 r.4
 
@@ -45,7 +42,7 @@ module _ {A : Type 0} {a : A} {rest : List ℕ} where
       → ((b : B) (later : List ℕ) → p ≡ Read b later → go b later ≡ Read a rest → C) → C
   and_then_elim p go e then = let r = and_then_inv p go e in then r.0 r.1 r.2 r.3
 
-  pub judged_inv : (right : Bool) (fault : KitAnswer) (p : Parsed A) → judged right fault p ≡ Read a rest → (right ≡ true) × (p ≡ Read a rest)
+  pub judged_inv : (right : Bool) (fault : KitRefusal) (p : Parsed A) → judged right fault p ≡ Read a rest → (right ≡ true) × (p ≡ Read a rest)
   judged_inv true fault p e = (refl, e)
   judged_inv false fault p e = no_way (cc)
 
@@ -58,7 +55,7 @@ pub record Reads {A : Type 0} (one : List ℕ → Parsed A) (numbers : A → Lis
   pub every : (a : A) (rest : List ℕ) → Good a → one (numbers a ++ rest) ≡ Read a rest
 
 -- a number by itself
-pub alone_reads : (test : ℕ → Bool) (fault : KitAnswer) → Reads (alone test fault) (λ n. n ∷ []) (λ n. test n ≡ true)
+pub alone_reads : (test : ℕ → Bool) (fault : KitRefusal) → Reads (alone test fault) (λ n. n ∷ []) (λ n. test n ≡ true)
 alone_reads test fault =
     record {
       only = λ ns a rest e.
@@ -71,15 +68,15 @@ alone_reads test fault =
 
 -- so many of them
 abbrev pub AllGood : {A : Type 0} → (A → Type 0) → ℕ → List A → Type 0
-AllGood Good m l = (length l ≡ m) × ((i : ℕ) (a : _) → nth l i ≡ some a → Good a)
+AllGood Good m l = (length l ≡ m) × ((i : ℕ) (a : _) → nth l i ≡ Some a → Good a)
 
 module _ {A : Type 0} {one : List ℕ → Parsed A} {numbers : A → List ℕ} {Good : A → Type 0} (reads : Reads one numbers Good)
-    (joined : List A → List ℕ) (none : joined [] ≡ []) (more : (a : A) (l : List A) → joined (a ∷ l) ≡ numbers a ++ joined l) where
+    (joined : List A → List ℕ) (None : joined [] ≡ []) (more : (a : A) (l : List A) → joined (a ∷ l) ≡ numbers a ++ joined l) where
   several_only : (m : ℕ) (ns : List ℕ) (l : List A) (rest : List ℕ) → several m one ns ≡ Read l rest → (ns ≡ joined l ++ rest) × AllGood Good m l
   several_only zero ns l rest e =
       let q : [] ≡ l = cc in
       let s : ns ≡ rest = cc in
-      rw (← q) (rw none s, (refl, λ i a h. no_way (cc)))
+      rw (← q) (rw None s, (refl, λ i a h. no_way (cc)))
   several_only (suc m) ns l rest e =
       let r = and_then_inv (one ns) _ e in
       let t = and_then_inv (several m one r.1) _ r.3 in
@@ -91,12 +88,12 @@ module _ {A : Type 0} {one : List ℕ → Parsed A} {numbers : A → List ℕ} {
       let whole : ns ≡ joined (r.0 ∷ t.0) ++ rest = rw (more, append_assoc, ← front) first.0 in
       rw (← q) (whole, (ap suc later.1.0, λ i a h. good_at r.0 t.0 first.1 later.1.1 i a h))
     where
-      good_at : (x : A) (l : List A) → Good x → ((i : ℕ) (a : A) → nth l i ≡ some a → Good a) → (i : ℕ) (a : A) → nth (x ∷ l) i ≡ some a → Good a
+      good_at : (x : A) (l : List A) → Good x → ((i : ℕ) (a : A) → nth l i ≡ Some a → Good a) → (i : ℕ) (a : A) → nth (x ∷ l) i ≡ Some a → Good a
       good_at x l g f zero a h = let z : x ≡ a = cc in rw (← z) g
       good_at x l g f (suc i) a h = f i a h
 
   several_every : (m : ℕ) (l : List A) (rest : List ℕ) → AllGood Good m l → several m one (joined l ++ rest) ≡ Read l rest
-  several_every zero [] rest good = rw none
+  several_every zero [] rest good = rw None
   several_every zero (a ∷ l) rest good = absurd (omega (arith, good.0))
   several_every (suc m) [] rest good = absurd (omega (arith, good.0))
   several_every (suc m) (a ∷ l) rest good =
@@ -122,7 +119,7 @@ row_inv size (o ∷ row) before ns ops rest e =
 
 -- the numbers of a content are a content
 content_only : (kind a b : ℕ) → within 1 5 kind ≡ true → (uses_b kind || eqb b 0) ≡ true
-    → (c : Content) × (content_of kind a b ≡ ContentChoice.Content c) × (content_numbers c ≡ kind ∷ a ∷ b ∷ [])
+    → (c : Content) × (content_of kind a b ≡ Some c) × (content_numbers c ≡ kind ∷ a ∷ b ∷ [])
 unfolding content_of
 content_only zero a b w u = no_way (cc)
 content_only (suc zero) a b w u = let z : b ≡ 0 = eqb-true b 0 u in (Content.Prepare a, rw (u), cc)
@@ -134,7 +131,7 @@ content_only (suc (suc (suc (suc (suc (suc k)))))) a b w u =
     let kind = suc (suc (suc (suc (suc (suc k))))) in
     absurd (omega (arith, leb-true kind 5 (and_r (leb 1 kind) (leb kind 5) w)))
 
-kind_above : (n : ℕ) → 8 < n → kind_of n ≡ KindChoice.Refused
+kind_above : (n : ℕ) → 8 < n → kind_of n ≡ None
 unfolding kind_of
 kind_above n h =
     simp (
@@ -148,7 +145,7 @@ kind_above n h =
       ne_eqb n 8 (λ e. omega arith),
     )
 
-kind_only : (n : ℕ) (kind : Kind) → kind_of n ≡ KindChoice.Kind kind → n ≡ kind_number kind
+kind_only : (n : ℕ) (kind : Kind) → kind_of n ≡ Some kind → n ≡ kind_number kind
 unfolding kind_of
 kind_only zero kind e = no_way (cc)
 kind_only (suc zero) kind e = let z : Kind.Submit ≡ kind = cc in rw (← z)
@@ -220,10 +217,10 @@ kind_read size Kind.File ns ops mid l rest r e =
 -- ---- an event
 
 module _ (size gap : ℕ) where
-  event_only : (n : ℕ) (choice : KindChoice) (ns : List ℕ) (e : Entry) (rest : List ℕ) → kind_of n ≡ choice → event_after size gap choice ns ≡ Read e rest
+  event_only : (n : ℕ) (choice : Option Kind) (ns : List ℕ) (e : Entry) (rest : List ℕ) → kind_of n ≡ choice → event_after size gap choice ns ≡ Read e rest
       → (gap ∷ n ∷ ns ≡ entry_numbers e ++ rest) × (e.gap ≡ gap) × GoodEvent size e.event e.requests
-  event_only n KindChoice.Refused ns e rest is h = no_way (cc)
-  event_only n (KindChoice.Kind kind) ns e rest is h =
+  event_only n None ns e rest is h = no_way (cc)
+  event_only n (Some kind) ns e rest is h =
       let a = and_then_inv (operands size (operands_of kind) [] ns) _ h in
       let b = and_then_inv (several (filed_by kind (get_or a.0 1 0) (get_or a.0 2 0)) (alone is_request WrongEvent) a.1) _ a.3 in
       let k = kind_read size kind ns a.0 a.1 b.0 b.1 (row_inv size (operands_of kind) [] ns a.0 a.1 a.2) b.2 in
@@ -387,70 +384,12 @@ accepted_numbers ns k e = (kit_only ns k [] e).0 ∙ append-nil (kit_numbers k)
 pub good_accepted : (k : Kit) → GoodKit k → parse (kit_numbers k) ≡ Read k []
 good_accepted k g = ap parse (sym (append-nil (kit_numbers k))) ∙ kit_every k [] g
 
--- ---- nothing is refused with "accepted"
-
-abbrev Fair : {A : Type 0} → Parsed A → Type 0
-Fair p = p ≡ Refusal Accepted → ⊥
-
-and_then_fair : {A B : Type 0} (p : Parsed A) (go : A → List ℕ → Parsed B) → Fair p → ((a : A) (ns : List ℕ) → Fair (go a ns)) → Fair (and_then p go)
-and_then_fair (Refusal fault) go h f e = h (let q : fault ≡ Accepted = cc in rw q)
-and_then_fair (Read a ns) go h f e = f a ns e
-
-module _ {A : Type 0} where
-  number_fair : (ns : List ℕ) (test : ℕ → Bool) (fault : KitAnswer) (go : ℕ → List ℕ → Parsed A) → (fault ≡ Accepted → ⊥)
-      → ((n : ℕ) (later : List ℕ) → Fair (go n later)) → Fair (number ns test fault go)
-  number_fair [] test fault go h f e = no_way (cc)
-  number_fair (n ∷ ns) test fault go h f e =
-      split (test n) (λ t. f n ns (rw t at e)) (λ t. let z : ◌≡◌ {A = Parsed A} (Refusal fault) (Refusal Accepted) = rw t at e in h (cc))
-
-  several_fair : (m : ℕ) (one : List ℕ → Parsed A) → ((ns : List ℕ) → Fair (one ns)) → (ns : List ℕ) → Fair (several m one ns)
-  several_fair zero one f ns = λ e. no_way (cc)
-  several_fair (suc m) one f ns =
-      and_then_fair (one ns) _ (f ns) (λ a ns₁. and_then_fair (several m one ns₁) _ (several_fair m one f ns₁) (λ l ns₂ e. no_way (cc)))
-
-operands_fair : (size : ℕ) (row : List Operand) (ops ns : List ℕ) → Fair (operands size row ops ns)
-operands_fair size [] ops ns = λ e. no_way (cc)
-operands_fair size (o ∷ row) ops ns =
-    number_fair ns (fits o size ops) WrongEvent _ (λ e. no_way (cc)) (λ n later. operands_fair size row (ops ++ (n ∷ [])) later)
-
-event_fair : (size gap : ℕ) (choice : KindChoice) (ns : List ℕ) → Fair (event_after size gap choice ns)
-event_fair size gap KindChoice.Refused ns = λ e. no_way (cc)
-event_fair size gap (KindChoice.Kind kind) ns =
-    and_then_fair (operands size (operands_of kind) [] ns) _ (operands_fair size (operands_of kind) [] ns) (λ ops ns₁.
-    and_then_fair (several (filed_by kind (get_or ops 1 0) (get_or ops 2 0)) (alone is_request WrongEvent) ns₁) _
-    (several_fair (filed_by kind (get_or ops 1 0) (get_or ops 2 0)) (alone is_request WrongEvent)
-    (λ ns₂. number_fair ns₂ is_request WrongEvent Read (λ e. no_way (cc)) (λ n later e. no_way (cc))) ns₁)
-    (λ l ns₂ e. no_way (cc)))
-
-kind_fair : (size gap : ℕ) (ns : List ℕ) → Fair (kind_after size gap ns)
-kind_fair size gap [] = λ e. no_way (cc)
-kind_fair size gap (n ∷ ns) = event_fair size gap (kind_of n) ns
-
-parse_fair : (ns : List ℕ) → Fair (parse ns)
-unfolding parse
-parse_fair ns =
-    number_fair ns (within 1 faults_max) WrongSettings _ (λ e. no_way (cc)) (λ f ns₁.
-    number_fair ns₁ (λ n. ltb n (replicas f)) WrongSettings _ (λ e. no_way (cc)) (λ leader ns₂.
-    number_fair ns₂ (within 1 ticks_max) WrongSettings _ (λ e. no_way (cc)) (λ patience ns₃.
-    and_then_fair (several (replicas f) (alone is_table_number WrongSettings) ns₃) _
-    (several_fair (replicas f) (alone is_table_number WrongSettings)
-    (λ ms. number_fair ms is_table_number WrongSettings Read (λ e. no_way (cc)) (λ n later e. no_way (cc))) ns₃) (λ table ns₄.
-    judged_fair (table_right f leader table) _
-    (number_fair ns₄ (λ n. leb n events_max) WrongEvent _ (λ e. no_way (cc)) (λ count ns₅.
-    and_then_fair (several count (entry (replicas f)) ns₅) _
-    (several_fair count (entry (replicas f))
-    (λ ms. number_fair ms (λ gap. leb gap ticks_max) WrongEvent _ (λ e. no_way (cc)) (kind_fair (replicas f))) ns₅) (λ es ns₆ e. no_way (cc))))))))
-  where
-    judged_fair : (right : Bool) (p : Parsed Kit) → Fair p → Fair (judged right WrongSettings p)
-    judged_fair true p h e = h e
-    judged_fair false p h e = no_way (cc)
-
 -- accepted means read as a kit, with none left
 pub answer_accepted : (ns : List ℕ) → kit_answer ns ≡ Accepted → (k : Kit) × (parse ns ≡ Read k [])
 unfolding kit_answer
 answer_accepted ns e = from (parse ns) refl e
   where
     from : (p : Parsed Kit) → parse ns ≡ p → answer_of p ≡ Accepted → (k : Kit) × (parse ns ≡ Read k [])
-    from (Refusal fault) is h = absurd (parse_fair ns (is ∙ rw h))
+    from (Refusal fault) is h = no_way (cc)
     from (Read k []) is h = (k, is)
     from (Read k (n ∷ rest)) is h = no_way (cc)

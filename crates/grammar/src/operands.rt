@@ -1,14 +1,12 @@
 // The operands of each kind of event, and what each of them has to be.
-ghost use Rattle.std.specs.Prelude.{◌≡◌, ◌||◌, ◌∷◌, [], ◌+◌, eqb, leb, get_or, length};
-ghost use Rattle.terms.specs.Kit.{is_request};
-ghost use Rattle.terms.specs.Lists.{within};
-ghost use Rattle.grammar.specs.Operands.{operands_of, operand_of, fits, uses_b, event_of, filed_of, filed_by};
+ghost use Rattle.std.specs.Prelude.{◌≡◌, ◌≤◌, length};
+ghost use Rattle.grammar.specs.Operands.{operands_of, fits, event_of, filed_of, filed_by};
 
 use self::Operand::{Any, B, Content, E, K, Name, Replica, Request};
-use terms::{ContentChoice, Event, Kind};
+use terms::{Event, Kind};
 
 // What an operand has to be.
-#[derive(Clone, Copy)]
+#[derive(Clone, Copy, Debug, PartialEq, Eq)]
 pub enum Operand {
     // Any number.
     Any,
@@ -28,100 +26,40 @@ pub enum Operand {
     E,
 }
 
-// How many operands a kind has, the requests of kind 8 apart.
-pub fn operand_count(kind: Kind) -> u8
-    ensures { result ≡ length (operands_of kind) }
+// The operands of a kind, the requests of kind 8 apart: document 01's table.
+pub fn operands_of(kind: Kind) -> &'static [Operand]
+    ensures row { result.now ≡ operands_of kind }
+    ensures few { length result.now ≤ 5 }
 {
     match kind {
-        Kind::Submit => 1,
-        Kind::Issue => 5,
-        Kind::Deliver => 4,
-        Kind::Hand => 3,
-        Kind::Panic => 1,
-        Kind::Idle => 0,
-        Kind::Build => 0,
-        Kind::File => 3,
+        Kind::Submit => &[Request],
+        Kind::Issue => &[Replica, Name, Content, Any, B],
+        Kind::Deliver => &[Replica, Name, Any, Replica],
+        Kind::Hand => &[Any, Any, Replica],
+        Kind::Panic => &[Replica],
+        Kind::Idle | Kind::Build => &[],
+        Kind::File => &[Any, K, E],
     }
 }
 
-// The operand at a place of a row of five.
-fn in_row(a: Operand, b: Operand, c: Operand, d: Operand, e: Operand, at: u8) -> Operand
-    ensures { result ≡ get_or (a ∷ b ∷ c ∷ d ∷ e ∷ []) at Operand.Any }
-{
-    match at {
-        0 => a,
-        1 => b,
-        2 => c,
-        3 => d,
-        4 => e,
-        _ => Operand::Any,
-    }
-}
-
-// The operand at a place of a kind: document 01's table, each row filled up to five.
-#[tactic(auto, unfolding(crate::specs::Operands::operand_of))]
-pub fn operand_of(kind: Kind, at: u8) -> Operand
-    ensures { result ≡ operand_of kind at }
-{
-    match kind {
-        Kind::Submit => in_row(Request, Any, Any, Any, Any, at),
-        Kind::Issue => in_row(Replica, Name, Content, Any, B, at),
-        Kind::Deliver => in_row(Replica, Name, Any, Replica, Any, at),
-        Kind::Hand => in_row(Any, Any, Replica, Any, Any, at),
-        Kind::Panic => in_row(Replica, Any, Any, Any, Any, at),
-        Kind::Idle => Any,
-        Kind::Build => Any,
-        Kind::File => in_row(Any, K, E, Any, Any, at),
-    }
-}
-
-// Content kinds are 1 to 5.
-fn is_content(n: u32) -> bool
-    ensures { result ≡ within 1 5 n }
-{
-    match n {
-        1..=5 => true,
-        _ => false,
-    }
-}
-
-// A b that is not 0 needs COMMIT or UPDATE before it.
-fn is_b(content: u32, n: u32) -> bool
-    ensures { result ≡ (uses_b content || eqb n 0) }
-{
-    match content {
-        2..=3 => true,
-        _ => n == 0,
-    }
-}
-
-// k+e is at most 64, and does not wrap.
-fn is_e(k: u32, n: u32) -> bool
-    ensures { result ≡ leb (k + n) 64 }
-{
-    if n <= 64 { k <= 64 - n } else { false }
-}
-
-// Whether an operand is what it has to be: size is how many replicas there are, the rest the first operands before it.
-pub fn operand_fits(
-    operand: Operand,
-    size: u32,
-    first: u32,
-    second: u32,
-    third: u32,
-    n: u32,
-) -> bool
-    ensures { result ≡ fits operand size (first ∷ second ∷ third ∷ []) n }
-{
-    match operand {
-        Operand::Any => true,
-        Operand::Replica => n < size,
-        Operand::Name => n <= 2,
-        Operand::Content => is_content(n),
-        Operand::B => is_b(third, n),
-        Operand::Request => n != 0,
-        Operand::K => first <= n,
-        Operand::E => is_e(second, n),
+impl Operand {
+    // Whether a number is what the operand has to be: size is how many replicas there are, ops the first operands before it.
+    pub fn fits(self, size: u32, ops: &[u32; 3], n: u32) -> bool
+        ensures { result ≡ fits self size ops.now n }
+    {
+        match self {
+            Any => true,
+            Replica => n < size,
+            Name => n <= 2,
+            // Content kinds are 1 to 5.
+            Content => matches!(n, 1..=5),
+            // A b that is not 0 needs COMMIT or UPDATE before it.
+            B => matches!(ops[2], 2..=3) || n == 0,
+            Request => n != 0,
+            K => ops[0] <= n,
+            // k+e does not wrap.
+            E => ops[1].saturating_add(n) <= 64,
+        }
     }
 }
 
@@ -130,13 +68,8 @@ pub fn operand_fits(
 fn filed_of(k: u32, e: u32) -> u32
     ensures { result ≡ filed_of k e }
 {
-    if e > 64 {
-        return 0;
-    }
-    if k > 64 - e {
-        return 0;
-    }
-    k + e
+    let filed = k.saturating_add(e);
+    if filed <= 64 { filed } else { 0 }
 }
 
 // How many requests follow the operands: only kind 8 has some.
@@ -144,39 +77,35 @@ pub fn filed_by(kind: Kind, second: u32, third: u32) -> u32
     ensures { result ≡ filed_by kind second third }
 {
     match kind {
-        Kind::Submit => 0,
-        Kind::Issue => 0,
-        Kind::Deliver => 0,
-        Kind::Hand => 0,
-        Kind::Panic => 0,
-        Kind::Idle => 0,
-        Kind::Build => 0,
         Kind::File => filed_of(second, third),
+        _ => 0,
     }
 }
 
 // What a faulty replica issues, or nothing where the content is none.
-fn issue_of(replica: u32, name: u32, content: u32, a: u32, b: u32) -> Event
-    ensures { result ≡ event_of Kind.Issue (replica ∷ name ∷ content ∷ a ∷ b ∷ []) }
+fn issue_of(ops: &[u32; 5]) -> Event
+    ensures { result ≡ event_of Kind.Issue ops.now }
 {
-    match terms::content_of(content, a, b) {
-        ContentChoice::Content(c) => Event::Issue(replica as usize, name as usize, c),
-        ContentChoice::Refused => Event::Idle,
+    match terms::Content::try_from([ops[2], ops[3], ops[4]]) {
+        Ok(content) => Event::Issue(ops[0] as usize, ops[1] as usize, content),
+        Err(_) => Event::Idle,
     }
 }
 
 // The event of a kind and its operands.
-pub fn event_of(kind: Kind, a: u32, b: u32, c: u32, d: u32, e: u32) -> Event
-    ensures { result ≡ event_of kind (a ∷ b ∷ c ∷ d ∷ e ∷ []) }
+pub fn event_of(kind: Kind, ops: &[u32; 5]) -> Event
+    ensures { result ≡ event_of kind ops.now }
 {
     match kind {
-        Kind::Submit => Event::Submit(a),
-        Kind::Issue => issue_of(a, b, c, d, e),
-        Kind::Deliver => Event::Deliver(a as usize, b as usize, c, d as usize),
-        Kind::Hand => Event::Hand(a, b, c as usize),
-        Kind::Panic => Event::Panic(a as usize),
+        Kind::Submit => Event::Submit(ops[0]),
+        Kind::Issue => issue_of(ops),
+        Kind::Deliver => {
+            Event::Deliver(ops[0] as usize, ops[1] as usize, ops[2], ops[3] as usize)
+        }
+        Kind::Hand => Event::Hand(ops[0], ops[1], ops[2] as usize),
+        Kind::Panic => Event::Panic(ops[0] as usize),
         Kind::Idle => Event::Idle,
         Kind::Build => Event::Build,
-        Kind::File => Event::File(a, b),
+        Kind::File => Event::File(ops[0], ops[1]),
     }
 }

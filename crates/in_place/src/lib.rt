@@ -1,5 +1,6 @@
 // Records changed where they stand. A thin function is lent one replica's record by `&mut`, calls the by-value step of crate `replica` and stores
 // what it gives; over it stands a function of a record that is given, which lends it.
+// Document 01 asks for both forms, by `&mut` and by value, so they stand side by side.
 #![tactic(auto)]
 
 ghost use Rattle.std.specs.Prelude.{◌≡◌};

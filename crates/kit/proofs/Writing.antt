@@ -1,22 +1,21 @@
 -- Turns of the writer's loops, on plain values. In order, each with what holds at the loop's head: judging the numbers (`Hearing`), measuring their
 -- spellings (`Measuring`), writing them (`Putting`), counting the numbers of some bytes (`Counting`). Each says that what is still to come gives,
 -- from here, what the whole gives from the start. Assumes nothing.
-use Rattle.std.proofs.Common.{◌≡◌, refl, sym, ap, ◌∙◌, List, ◌∷◌, ◌++◌, ℕ, zero, suc, ◌+◌, ◌-◌, ◌<◌, ◌≤◌, add-one, arith, le-leb, leb, length, drop, get_or, length-append, drop-cons}
+use Rattle.std.proofs.Common.{Option, Some, Ok, Err, ◌≡◌, refl, sym, ap, ◌∙◌, List, ◌∷◌, ◌++◌, ℕ, zero, suc, ◌+◌, ◌-◌, ◌<◌, ◌≤◌, add-one, zero-add, arith, le-leb, leb, length, take, drop, get_or, length-append, length-take, drop-cons}
 use Rattle.std.proofs.Math.Decide.{dec_lt}
 use Rattle.std.proofs.Math.Logic.{by_cases}
 use Rattle.std.proofs.lemmas.Bool.{lt-leb}
-use Rattle.number.specs.Number.{number_at, spelling, over, Written}
+use Rattle.terms.specs.Numbers.{Accepted}
+use Rattle.number.specs.Number.{Reading, Number, number_at, spelling, over, Written}
 use Rattle.number.proofs.NumberLaws.{moves_on_lem, past_end, over_over, length_over, written_next}
-use Rattle.number.specs.declared.Found.{Found}
-use Rattle.number.specs.declared.Found.TheVariants.{Number, Cut, Bad}
-use Rattle.number.specs.declared.Wrote.{Wrote}
-use Rattle.number.specs.declared.Wrote.TheVariants.{Next}
+use Rattle.number.specs.declared.Fault.TheVariants as Fault
 use Rattle.grammar.specs.Automaton.{fresh}
 use Rattle.grammar.specs.Parser.{kit_answer}
 use Rattle.grammar.specs.Judging.{run, judge_parses}
 use Rattle.grammar.specs.declared.Judge.{Judge}
 use Rattle.kit.specs.Spelling.{spellings}
-use Rattle.kit.specs.Reader.{Numbers, gathered, numbers_from, numbers_in, taken_at, stretch_at}
+use Rattle.kit.specs.Reader.{Numbers, gathered, numbers_from, numbers_in, check_of, taken_at, stretch_at, Stretched}
+use Rattle.kit.specs.Writer.{read_of, KitRead}
 
 -- ---- judging
 
@@ -51,8 +50,8 @@ module _ {ns out₀ out : List ℕ} {at i : ℕ} (p : Putting ns out₀ out at i
         let e : at + length (spelling (get_or ns i 0) ++ spellings (drop (i + 1) ns)) ≡ length (spellings ns) = rw cons at p.ends in
         omega (arith, length-append (spelling (get_or ns i 0)) (spellings (drop (i + 1) ns)), p.long)
 
-    module _ {out' : List ℕ} {r : Wrote} (w : Written out out' at (get_or ns i 0) r) where
-      pub putting_next : (next : ℕ) → r ≡ Next next → Putting ns out₀ out' next (i + 1)
+    module _ {out' : List ℕ} {r : Option ℕ} (w : Written out out' at (get_or ns i 0) r) where
+      pub putting_next : (next : ℕ) → r ≡ Some next → Putting ns out₀ out' next (i + 1)
       putting_next next e =
           let n = spelling (get_or ns i 0) in
           let rest = spellings (drop (i + 1) ns) in
@@ -106,13 +105,13 @@ module _ {s : List ℕ} {count at : ℕ} (c : Counting s count at) where
         }
 
 -- so many numbers, read one after another, are those that can be read
-stretch_found : (s : List ℕ) (at : ℕ) (later : ℕ → Numbers) (f : Found) → number_at s at ≡ f
+stretch_found : (s : List ℕ) (at : ℕ) (later : ℕ → Numbers) (f : Reading) → number_at s at ≡ f
     → ((next : ℕ) → (stretch_at (length (later next).list) s next).numbers ≡ (later next).list)
     → (stretch_at (length (gathered later f).list) s at).numbers ≡ (gathered later f).list
 unfolding taken_at
-stretch_found s at later (Number v next) e same = rw e (ap (λ (l : List ℕ). v ∷ l) (same next))
-stretch_found s at later Cut e same = refl
-stretch_found s at later Bad e same = refl
+stretch_found s at later (Ok found) e same = rw e (ap (λ (l : List ℕ). found.value ∷ l) (same found.next))
+stretch_found s at later (Err Fault.Cut) e same = refl
+stretch_found s at later (Err Fault.Bad) e same = refl
 
 stretch_from : (m : ℕ) (s : List ℕ) (at : ℕ) → (stretch_at (length (numbers_from m s at).list) s at).numbers ≡ (numbers_from m s at).list
 stretch_from zero s at = refl
@@ -124,3 +123,20 @@ stretch_from (suc m) s at =
 pub stretch_numbers : (s : List ℕ) → (stretch_at (length (numbers_in s).list) s 0).numbers ≡ (numbers_in s).list
 unfolding numbers_in
 stretch_numbers s = stretch_from (length s) s 0
+
+over_front : (out l : List ℕ) → l ++ drop (length l) out ≡ over out 0 l
+over_front out l = rw (zero-add (length l))
+
+-- all the numbers at the front of what is lent
+pub read_all : (s out front : List ℕ) (count r : ℕ) → Accepted ≡ check_of s → count ≡ length (numbers_in s).list → count ≤ length out
+    → Stretched (stretch_at (length (take count out)) s 0) front r → KitRead s out (front ++ drop count out) (Ok count)
+unfolding read_of
+read_all s out front count r ok is fits st =
+    let long : length (take count out) ≡ length (numbers_in s).list = omega (arith, length-take count out) in
+    let st₁ : Stretched (stretch_at (length (numbers_in s).list) s 0) front r = rw long at st in
+    let same : front ≡ (numbers_in s).list = st₁.filled ∙ stretch_numbers s in
+    let all : length (numbers_in s).list ≤ length out = omega arith in
+    record {
+      answer = rw (← ok, le-leb (length (numbers_in s).list) (length out) all, is);
+      numbers = rw (← ok, le-leb (length (numbers_in s).list) (length out) all, is, same) (over_front out (numbers_in s).list);
+    }

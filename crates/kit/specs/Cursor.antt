@@ -1,20 +1,18 @@
 -- The kit that accepted bytes spell, read from the bytes: its settings, and its events one after another by a cursor. In order: accepted bytes and
 -- their kit; the settings (`opened`) and where the first event stands; an event, from its numbers; the cursor, which goes from an event to the next
 -- (`first_cursor`, `next_cursor`). Assumes nothing.
-use Rattle.std.specs.Prelude.{◌≡◌, refl, List, [], ◌∷◌, ◌++◌, ℕ, zero, suc, ◌+◌, ◌-◌, length, drop, get_or}
+use Rattle.std.specs.Prelude.{Ok, Err, ◌≡◌, refl, List, [], ◌∷◌, ◌++◌, ℕ, zero, suc, ◌+◌, ◌-◌, length, drop, get_or, Some}
 use Rattle.std.proofs.Common.{sym, ◌∙◌, append_assoc, arith, le-leb}
 use Rattle.std.proofs.Math.Path.{ap}
-use Rattle.std.proofs.Math.Option.{some}
 use Rattle.terms.specs.Limits.{replicas, faults_max, requests_max}
 use Rattle.terms.specs.Lists.{nth}
 use Rattle.terms.specs.ListLaws.{no_way}
 use Rattle.terms.specs.Kit.{Kit, Entry, GoodKit, GoodEvent, kit_numbers, entry_numbers, entries_numbers, event_numbers}
-use Rattle.terms.specs.Numbers.{kind_of, kind_number, content_of}
+use Rattle.terms.specs.Numbers.{kind_of, kind_number, content_of, KitAnswer, Accepted}
 use Rattle.terms.specs.declared.Content.TheVariants as Content
 use Rattle.terms.specs.declared.Event.{Event}
 use Rattle.terms.specs.declared.Kind.{Kind}
-use Rattle.terms.specs.declared.KindChoice.TheVariants as KindChoice
-use Rattle.terms.specs.declared.KitAnswer.{KitAnswer}
+use Rattle.terms.specs.declared.KitRefusal.{KitRefusal}
 use Rattle.number.specs.Number.{Bytes}
 use Rattle.grammar.specs.Operands.{operands_of, event_of, filed_by, filed_of}
 use Rattle.grammar.specs.Parser.{kit_answer}
@@ -33,7 +31,7 @@ pub spells_numbers : (bytes : List ℕ) (kit : Kit) → Spells bytes kit → num
 unfolding numbers_in
 spells_numbers bytes kit s = stands_read (length bytes) bytes 0 (kit_numbers kit) (omega arith) (spells_stands bytes kit s)
 
-pub spells_accepted : (bytes : List ℕ) (kit : Kit) → Spells bytes kit → check_of bytes ≡ KitAnswer.Accepted
+pub spells_accepted : (bytes : List ℕ) (kit : Kit) → Spells bytes kit → check_of bytes ≡ Accepted
 unfolding check_of kit_answer
 spells_accepted bytes kit s = rw (spells_numbers bytes kit s, good_accepted kit s.good)
 
@@ -42,22 +40,22 @@ unfolding kit_of
 spells_kit bytes kit s = rw (spells_numbers bytes kit s, good_accepted kit s.good)
 
 -- "accepted" is said only where the bytes end with the kit
-instead_accepted : (cut a : KitAnswer) → (cut ≡ KitAnswer.Accepted → ⊥) → instead KitAnswer.Excess cut a ≡ KitAnswer.Accepted → ⊥
-instead_accepted cut KitAnswer.Accepted ne h = no_way (cc)
-instead_accepted cut KitAnswer.Cut ne h = ne h
-instead_accepted cut KitAnswer.Misspelled ne h = no_way (cc)
-instead_accepted cut KitAnswer.WrongSettings ne h = no_way (cc)
-instead_accepted cut KitAnswer.WrongEvent ne h = no_way (cc)
-instead_accepted cut KitAnswer.Excess ne h = no_way (cc)
-instead_accepted cut KitAnswer.NoRoom ne h = no_way (cc)
-instead_accepted cut KitAnswer.TooLong ne h = no_way (cc)
+instead_accepted : (short : KitRefusal) (a : KitAnswer) → instead KitRefusal.Excess short a ≡ Accepted → ⊥
+instead_accepted short (Ok t) h = no_way (cc)
+instead_accepted short (Err KitRefusal.Cut) h = no_way (cc)
+instead_accepted short (Err KitRefusal.Misspelled) h = no_way (cc)
+instead_accepted short (Err KitRefusal.WrongSettings) h = no_way (cc)
+instead_accepted short (Err KitRefusal.WrongEvent) h = no_way (cc)
+instead_accepted short (Err KitRefusal.Excess) h = no_way (cc)
+instead_accepted short (Err KitRefusal.NoRoom) h = no_way (cc)
+instead_accepted short (Err KitRefusal.TooLong) h = no_way (cc)
 
-closed_accepted : (e : Ending) (a : KitAnswer) → closed e a ≡ KitAnswer.Accepted → (e ≡ Whole) × (a ≡ KitAnswer.Accepted)
+closed_accepted : (e : Ending) (a : KitAnswer) → closed e a ≡ Accepted → (e ≡ Whole) × (a ≡ Accepted)
 closed_accepted Whole a h = (refl, h)
-closed_accepted Part a h = absurd (instead_accepted KitAnswer.Cut a (λ z. no_way (cc)) h)
-closed_accepted Wrong a h = absurd (instead_accepted KitAnswer.Misspelled a (λ z. no_way (cc)) h)
+closed_accepted Part a h = absurd (instead_accepted KitRefusal.Cut a h)
+closed_accepted Wrong a h = absurd (instead_accepted KitRefusal.Misspelled a h)
 
-pub accepted_spells : (bytes : List ℕ) → Bytes bytes → check_of bytes ≡ KitAnswer.Accepted → Spells bytes (kit_of bytes)
+pub accepted_spells : (bytes : List ℕ) → Bytes bytes → check_of bytes ≡ Accepted → Spells bytes (kit_of bytes)
 unfolding check_of kit_of numbers_in
 accepted_spells bytes are e =
     let c = closed_accepted (numbers_in bytes).ending (kit_answer (numbers_in bytes).list) e in
@@ -158,7 +156,7 @@ event_parts size (Event.File j k) l g =
       files = rw (sum, le-leb (length l) requests_max g.2);
     }
 
-kind_of_number : (kind : Kind) → kind_of (kind_number kind) ≡ KindChoice.Kind kind
+kind_of_number : (kind : Kind) → kind_of (kind_number kind) ≡ Some kind
 unfolding kind_of
 kind_of_number Kind.Submit = refl
 kind_of_number Kind.Issue = refl
@@ -218,12 +216,12 @@ pub record EntryRead (bytes : List ℕ) (kit : Kit) (i at : ℕ) (e : Entry) : T
   pub list : (before : List ℕ) → list_after bytes at before ≡ filed_into e.event e.requests before
   pub cursor : CursorAt bytes kit (suc i) (next_in bytes at).next
 
-drop_nth : (es : List Entry) (i : ℕ) (e : Entry) → nth es i ≡ some e → drop i es ≡ e ∷ drop (suc i) es
+drop_nth : (es : List Entry) (i : ℕ) (e : Entry) → nth es i ≡ Some e → drop i es ≡ e ∷ drop (suc i) es
 drop_nth [] i e h = no_way (cc)
 drop_nth (x ∷ es) zero e h = let z : x ≡ e = cc in rw z
 drop_nth (x ∷ es) (suc i) e h = drop_nth es i e h
 
-pub next_cursor : (bytes : List ℕ) (kit : Kit) (i at : ℕ) (e : Entry) → GoodKit kit → CursorAt bytes kit i at → nth kit.events i ≡ some e
+pub next_cursor : (bytes : List ℕ) (kit : Kit) (i at : ℕ) (e : Entry) → GoodKit kit → CursorAt bytes kit i at → nth kit.events i ≡ Some e
     → EntryRead bytes kit i at e
 unfolding next_in list_after
 next_cursor bytes kit i at e g c is =

@@ -1,7 +1,6 @@
 -- Each number of a kit is below 2^32 if those of its settings are, the count of its events, and those of each event. Assumes nothing.
-use Rattle.std.specs.Prelude.{◌≡◌, refl, List, [], ◌∷◌, ℕ, zero, suc, ◌<◌, ◌^◌, length}
+use Rattle.std.specs.Prelude.{◌≡◌, refl, List, [], ◌∷◌, ℕ, zero, suc, ◌<◌, ◌^◌, length, Some}
 use Rattle.std.proofs.Common.{subst}
-use Rattle.std.proofs.Math.Option.{some}
 use Rattle.terms.specs.Lists.{nth}
 use Rattle.terms.specs.ListLaws.{no_way}
 use Rattle.terms.specs.Kit.{Kit, Entry, entry_numbers, entries_numbers, kit_numbers}
@@ -12,7 +11,7 @@ use Rattle.kit.specs.SpellingLaws.{words_left, words_right, words_append, words_
 
 -- the numbers of each event are below 2^32
 abbrev pub EventWords : List Entry → Type 0
-EventWords es = (i : ℕ) (e : Entry) → nth es i ≡ some e → Words (entry_numbers e)
+EventWords es = (i : ℕ) (e : Entry) → nth es i ≡ Some e → Words (entry_numbers e)
 
 words_each : (es : List Entry) → Words (entries_numbers es) → EventWords es
 words_each [] w i e h = no_way (cc)

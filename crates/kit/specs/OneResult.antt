@@ -2,9 +2,8 @@
 use Rattle.std.specs.Prelude.{◌≡◌, List, ℕ}
 use Rattle.std.proofs.Common.{sym, ◌∙◌}
 use Rattle.kit.specs.Reader.{Stepped}
-use Rattle.kit.specs.Writer.{KitWritten, KitRead}
+use Rattle.kit.specs.Writer.{Outcome, KitWritten, KitRead}
 use Rattle.kit.specs.declared.Next.{Next}
-use Rattle.kit.specs.declared.writer.Outcome.{Outcome}
 
 pub stepped_one : {bytes list l₁ l₂ : List ℕ} {at : ℕ} {r₁ r₂ : Next} → Stepped bytes at list l₁ r₁ → Stepped bytes at list l₂ r₂ → (r₁ ≡ r₂) × (l₁ ≡ l₂)
 stepped_one v w = (v.answer ∙ sym w.answer, v.filed ∙ sym w.filed)

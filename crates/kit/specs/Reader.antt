@@ -1,21 +1,19 @@
 -- What a kit's bytes say, each defined on all bytes. In order: the numbers that they spell; their kit number and, of accepted ones, the kit
 -- (`check_of`); one number after another from a place on; the settings (`settings_in`); the event at a place, and what it leaves in the list that is
 -- lent for requests (`next_in`, `list_after`). Laws: SpellingLaws, Cursor. Assumes nothing.
-use Rattle.std.specs.Prelude.{◌≡◌, Bool, true, false, List, [], ◌∷◌, ◌++◌, ℕ, zero, suc, ◌-◌, leb, length, get_or, replicate}
+use Rattle.std.specs.Prelude.{Result, Ok, Err, Option, Some, None, ◌≡◌, Bool, true, false, List, [], ◌∷◌, ◌++◌, ℕ, zero, suc, ◌-◌, leb, length, get_or, replicate}
 use Rattle.terms.specs.Limits.{replicas, faults_max, requests_max}
 use Rattle.terms.specs.Lists.{pick}
 use Rattle.terms.specs.Kit.{Kit}
-use Rattle.terms.specs.Numbers.{kind_of}
+use Rattle.terms.specs.Numbers.{kind_of, KitAnswer}
 use Rattle.terms.specs.declared.Event.{Event}
 use Rattle.terms.specs.declared.Kind.{Kind}
-use Rattle.terms.specs.declared.KindChoice.{KindChoice}
-use Rattle.terms.specs.declared.KitAnswer.{KitAnswer}
-use Rattle.number.specs.Number.{number_at, over}
+use Rattle.terms.specs.declared.KitRefusal.{KitRefusal}
+use Rattle.number.specs.Number.{Reading, number_at}
 use Rattle.number.specs.declared.Found.{Found}
-use Rattle.number.specs.declared.Found.TheVariants.{Number, Cut, Bad}
+use Rattle.number.specs.declared.Fault.{Fault}
 use Rattle.grammar.specs.Operands.{operands_of, filed_by, event_of}
 use Rattle.grammar.specs.Parser.{Parsed, Refusal, Read, parse, kit_answer}
-use Rattle.kit.specs.declared.Taken.{Taken}
 use Rattle.kit.specs.declared.Settings.{Settings}
 use Rattle.kit.specs.declared.Next.{Next}
 
@@ -31,10 +29,10 @@ pub record Numbers : Type 0 where
   pub list : List ℕ
   pub ending : Ending
 
-abbrev pub gathered : (ℕ → Numbers) → Found → Numbers
-gathered later (Number n next) = record { list = n ∷ (later next).list; ending = (later next).ending }
-gathered later Cut = record { list = []; ending = Part }
-gathered later Bad = record { list = []; ending = Wrong }
+abbrev pub gathered : (ℕ → Numbers) → Reading → Numbers
+gathered later (Ok found) = record { list = found.value ∷ (later found.next).list; ending = (later found.next).ending }
+gathered later (Err Fault.Cut) = record { list = []; ending = Part }
+gathered later (Err Fault.Bad) = record { list = []; ending = Wrong }
 
 -- from a place on; each number takes a byte, so there are at most as many as bytes
 abbrev pub numbers_from : ℕ → List ℕ → ℕ → Numbers
@@ -47,23 +45,36 @@ numbers_in bytes = numbers_from (length bytes) bytes 0
 
 -- ---- the kit number
 
--- an answer, where "accepted" and "ends too soon" become others
-abbrev pub instead : KitAnswer → KitAnswer → KitAnswer → KitAnswer
-instead good short KitAnswer.Accepted = good
-instead good short KitAnswer.Cut = short
-instead good short KitAnswer.Misspelled = KitAnswer.Misspelled
-instead good short KitAnswer.WrongSettings = KitAnswer.WrongSettings
-instead good short KitAnswer.WrongEvent = KitAnswer.WrongEvent
-instead good short KitAnswer.Excess = KitAnswer.Excess
-instead good short KitAnswer.NoRoom = KitAnswer.NoRoom
-instead good short KitAnswer.TooLong = KitAnswer.TooLong
+-- a number that cannot be read, as what refuses a kit
+abbrev pub refusal_of : Fault → KitRefusal
+refusal_of Fault.Cut = KitRefusal.Cut
+refusal_of Fault.Bad = KitRefusal.Misspelled
+
+abbrev pub read_from : Reading → Result Found KitRefusal
+read_from (Ok found) = Ok found
+read_from (Err fault) = Err (refusal_of fault)
+
+-- a number, or what refuses a kit that has none there
+abbrev pub read_at : List ℕ → ℕ → Result Found KitRefusal
+read_at bytes at = read_from (number_at bytes at)
+
+-- an answer, where "accepted" and "ends too soon" become other refusals
+abbrev pub instead : KitRefusal → KitRefusal → KitAnswer → KitAnswer
+instead good short (Ok t) = Err good
+instead good short (Err KitRefusal.Cut) = Err short
+instead good short (Err KitRefusal.Misspelled) = Err KitRefusal.Misspelled
+instead good short (Err KitRefusal.WrongSettings) = Err KitRefusal.WrongSettings
+instead good short (Err KitRefusal.WrongEvent) = Err KitRefusal.WrongEvent
+instead good short (Err KitRefusal.Excess) = Err KitRefusal.Excess
+instead good short (Err KitRefusal.NoRoom) = Err KitRefusal.NoRoom
+instead good short (Err KitRefusal.TooLong) = Err KitRefusal.TooLong
 
 -- the answer for the numbers, with what stands behind them: bytes behind a whole kit are too many, whatever they are; a kit that wants one
 -- more number meets the end of the bytes, or one that is spelled wrong
 abbrev pub closed : Ending → KitAnswer → KitAnswer
 closed Whole answer = answer
-closed Part answer = instead KitAnswer.Excess KitAnswer.Cut answer
-closed Wrong answer = instead KitAnswer.Excess KitAnswer.Misspelled answer
+closed Part answer = instead KitRefusal.Excess KitRefusal.Cut answer
+closed Wrong answer = instead KitRefusal.Excess KitRefusal.Misspelled answer
 
 unfoldable pub check_of : List ℕ → KitAnswer
 check_of bytes = closed (numbers_in bytes).ending (kit_answer (numbers_in bytes).list)
@@ -78,12 +89,11 @@ kit_of bytes = kit_from (parse (numbers_in bytes).list)
 
 -- ---- one number after another: one that cannot be read counts as 0 and takes no bytes
 
-abbrev pub taken_from : ℕ → Found → Taken
-taken_from at (Number n next) = record { value = n; next = next }
-taken_from at Cut = record { value = 0; next = at }
-taken_from at Bad = record { value = 0; next = at }
+abbrev pub taken_from : ℕ → Reading → Found
+taken_from at (Ok found) = found
+taken_from at (Err fault) = record { value = 0; next = at }
 
-unfoldable pub taken_at : List ℕ → ℕ → Taken
+unfoldable pub taken_at : List ℕ → ℕ → Found
 taken_at bytes at = taken_from at (number_at bytes at)
 
 -- so many numbers, and the place after them
@@ -99,10 +109,10 @@ stretch_at (suc m) bytes at =
       next = (stretch_at m bytes (taken_at bytes at).next).next;
     }
 
--- a stretch filled in at the front of what is lent
-pub record Stretched (s : Stretch) (out out' : List ℕ) (r : ℕ) : Type 0 where
+-- a stretch filled in, and the place after it
+pub record Stretched (s : Stretch) (out' : List ℕ) (r : ℕ) : Type 0 where
   pub next : r ≡ s.next
-  pub filled : out' ≡ over out 0 s.numbers
+  pub filled : out' ≡ s.numbers
 
 -- ---- the settings
 
@@ -114,19 +124,19 @@ abbrev pub padded : ℕ → List ℕ → List ℕ
 padded size l = l ++ replicate (size - length l) 0
 
 module _ (bytes : List ℕ) where
-  abbrev pub f_at : Taken
+  abbrev pub f_at : Found
   f_at = taken_at bytes 0
 
-  abbrev pub leader_at : Taken
+  abbrev pub leader_at : Found
   leader_at = taken_at bytes f_at.next
 
-  abbrev pub patience_at : Taken
+  abbrev pub patience_at : Found
   patience_at = taken_at bytes leader_at.next
 
   abbrev pub table_at : Stretch
   table_at = stretch_at (size_of f_at.value) bytes patience_at.next
 
-  abbrev pub count_at : Taken
+  abbrev pub count_at : Found
   count_at = taken_at bytes table_at.next
 
 unfoldable pub settings_in : List ℕ → Settings
@@ -201,11 +211,11 @@ pub record OfKind (bytes : List ℕ) (gap : ℕ) (kind : Kind) (at : ℕ) (list 
   pub filed : list' ≡ filed_into (entry_of_kind bytes gap kind at).event (entry_of_kind bytes gap kind at).requests list
 
 -- a number that is no kind is an idle event
-abbrev pub entry_of : List ℕ → ℕ → KindChoice → ℕ → EntryAt
-entry_of bytes gap KindChoice.Refused at = record { gap = gap; event = Event.Idle; requests = []; next = at }
-entry_of bytes gap (KindChoice.Kind kind) at = entry_of_kind bytes gap kind at
+abbrev pub entry_of : List ℕ → ℕ → Option Kind → ℕ → EntryAt
+entry_of bytes gap None at = record { gap = gap; event = Event.Idle; requests = []; next = at }
+entry_of bytes gap (Some kind) at = entry_of_kind bytes gap kind at
 
-abbrev pub kind_at : List ℕ → ℕ → Taken
+abbrev pub kind_at : List ℕ → ℕ → Found
 kind_at bytes at = taken_at bytes (taken_at bytes at).next
 
 unfoldable pub entry_at : List ℕ → ℕ → EntryAt

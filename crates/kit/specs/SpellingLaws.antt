@@ -1,16 +1,15 @@
 -- Bytes that are the spellings of some numbers are read as those numbers, and bytes that are read to their end are the spellings of what was
 -- read. Assumes nothing.
-use Rattle.std.specs.Prelude.{◌≡◌, refl, List, [], ◌∷◌, ◌++◌, ℕ, zero, suc, ◌+◌, ◌-◌, ◌<◌, ◌≤◌, ◌^◌, length, drop}
+use Rattle.std.specs.Prelude.{Ok, Err, ◌≡◌, refl, List, [], ◌∷◌, ◌++◌, ℕ, zero, suc, ◌+◌, ◌-◌, ◌<◌, ◌≤◌, ◌^◌, length, drop}
 use Rattle.std.proofs.Common.{sym, ap, ◌∙◌, append_assoc, ⊎_elim, arith, le-leb, length-append, length-drop, take-append-drop, drop_of_length-le, drop-drop}
 use Rattle.std.proofs.Math.Logic.{by_cases}
 use Rattle.std.proofs.Math.Decide.{dec_lt}
 use Rattle.std.proofs.lemmas.Bool.{lt-leb}
 use Rattle.std.proofs.Math.Seq.{drop-append_seam}
 use Rattle.terms.specs.ListLaws.{no_way, nth-append, nth_app_inv}
-use Rattle.number.specs.Number.{number_at, spelling, Bytes}
+use Rattle.number.specs.Number.{Reading, Number, number_at, spelling, Bytes}
 use Rattle.number.proofs.NumberLaws.{spelling_reads_from, one_spelling, spelling_length_lem, moves_on_lem}
-use Rattle.number.specs.declared.Found.{Found}
-use Rattle.number.specs.declared.Found.TheVariants.{Number, Cut, Bad}
+use Rattle.number.specs.declared.Fault.TheVariants as Fault
 use Rattle.kit.specs.Spelling.{spellings, Words}
 use Rattle.kit.specs.Reader.{Numbers, Whole, gathered, numbers_from, taken_at, stretch_at}
 
@@ -94,17 +93,19 @@ spelled s at v next bytes e =
     let further : at + (next - at) ≡ next = omega arith in
     sym (take-append-drop (next - at) (drop at s)) ∙ rw (o.bytes, drop-drop (next - at) at s, further)
 
-read_found : (s : List ℕ) (at : ℕ) (later : ℕ → Numbers) (f : Found) → Bytes s → number_at s at ≡ f
+read_found : (s : List ℕ) (at : ℕ) (later : ℕ → Numbers) (f : Reading) → Bytes s → number_at s at ≡ f
     → ((v next : ℕ) → number_at s at ≡ Number v next → (later next).ending ≡ Whole → Stands s next (later next).list)
     → (gathered later f).ending ≡ Whole → Stands s at (gathered later f).list
-read_found s at later (Number v next) bytes e go whole =
+read_found s at later (Ok found) bytes e go whole =
+    let v = found.value in
+    let next = found.next in
     let t = go v next e whole in
     record {
       rest = spelled s at v next bytes e ∙ ap (λ (l : List ℕ). spelling v ++ l) t.rest;
       words = words_cons v (later next).list (one_spelling s at v next bytes e).small t.words;
     }
-read_found s at later Cut bytes e go whole = no_way (cc)
-read_found s at later Bad bytes e go whole = no_way (cc)
+read_found s at later (Err Fault.Cut) bytes e go whole = no_way (cc)
+read_found s at later (Err Fault.Bad) bytes e go whole = no_way (cc)
 
 nothing : (s : List ℕ) (at : ℕ) → length s ≤ at → Stands s at []
 nothing s at h = record { rest = drop_of_length-le s h; words = λ i n e. no_way (cc) }

@@ -1,34 +1,28 @@
 -- A kit given as its numbers: what writing its bytes gives back and leaves of the lent buffer, and what reading its numbers back does.
 -- Assumes nothing.
-use Rattle.std.specs.Prelude.{◌≡◌, Bool, true, false, List, ℕ, leb, length}
+use Rattle.std.specs.Prelude.{◌≡◌, Result, Ok, Err, List, ℕ, leb, length}
 use Rattle.terms.specs.Lists.{pick}
-use Rattle.terms.specs.declared.KitAnswer.{KitAnswer}
+use Rattle.terms.specs.Numbers.{KitAnswer}
+use Rattle.terms.specs.declared.KitRefusal.{KitRefusal}
+use Rattle.terms.specs.declared.KitRefusal.TheVariants.{NoRoom}
 use Rattle.number.specs.Number.{over}
 use Rattle.grammar.specs.Parser.{kit_answer}
 use Rattle.kit.specs.Spelling.{spellings}
 use Rattle.kit.specs.Reader.{check_of, numbers_in}
-use Rattle.kit.specs.declared.writer.Outcome.{Outcome}
 
-abbrev pub is_accepted : KitAnswer → Bool
-is_accepted KitAnswer.Accepted = true
-is_accepted KitAnswer.Cut = false
-is_accepted KitAnswer.Misspelled = false
-is_accepted KitAnswer.WrongSettings = false
-is_accepted KitAnswer.WrongEvent = false
-is_accepted KitAnswer.Excess = false
-is_accepted KitAnswer.NoRoom = false
-is_accepted KitAnswer.TooLong = false
+-- how many bytes or numbers were filled in, or why none were
+abbrev pub Outcome : Type 0
+Outcome = Result ℕ KitRefusal
 
 -- the room is judged after everything else
 abbrev pub outcome_of : KitAnswer → ℕ → ℕ → Outcome
-outcome_of answer need room =
-    pick (is_accepted answer)
-    (pick (leb need room) (record { answer = KitAnswer.Accepted; count = need }) (record { answer = KitAnswer.NoRoom; count = 0 }))
-    (record { answer = answer; count = 0 })
+outcome_of (Ok t) need room = pick (leb need room) (Ok need) (Err NoRoom)
+outcome_of (Err refusal) need room = Err refusal
 
 -- what is lent stays as it was, but for what is filled in where all is well
 abbrev pub filled_in : Outcome → List ℕ → List ℕ → List ℕ
-filled_in outcome out vs = pick (is_accepted outcome.answer) (over out 0 vs) out
+filled_in (Ok count) out vs = over out 0 vs
+filled_in (Err refusal) out vs = out
 
 -- numbers written as bytes
 unfoldable pub write_of : List ℕ → List ℕ → Outcome

@@ -2,21 +2,13 @@
 #![tactic(auto)]
 
 ghost use Rattle.std.specs.Prelude.{◌≡◌, ◌≤◌, length};
-ghost use Rattle.number.specs.Number.{over};
-ghost use Rattle.kit.specs.Reader.{check_of, taken_at, stretch_at, size_of, settings_in, Stepped, Stretched, OfKind, RequestsRead};
+ghost use Rattle.kit.specs.Reader.{check_of, taken_at, stretch_at, size_of, settings_in, refusal_of, read_at, Stepped, Stretched, OfKind, RequestsRead};
 
-use grammar::{Judge, Said};
-use number::Found;
-use terms::{Event, Kind, KindChoice, KitAnswer};
+use grammar::{Judge, Progress, operands};
+use number::{Fault, Found};
+use terms::{Event, Kind, KitRefusal, REPLICAS, REQUESTS, Requests, Table};
 
 pub mod writer;
-
-// A number, and the place after it.
-#[derive(Clone, Copy)]
-pub struct Taken {
-    pub value: u32,
-    pub next: usize,
-}
 
 // What a kit says before its events: f, 2f+1, the leader, the patience, the table, how many events, and the place of the first.
 #[derive(Clone, Copy)]
@@ -25,7 +17,7 @@ pub struct Settings {
     pub size: usize,
     pub leader: usize,
     pub patience: u32,
-    pub table: [u32; 7],
+    pub table: Table,
     pub count: usize,
     pub first: usize,
 }
@@ -39,79 +31,68 @@ pub struct Next {
     pub next: usize,
 }
 
-// The kit number of any bytes: each number goes before the judge once it is read.
-pub fn check(bytes: &[u8]) -> KitAnswer
+// A number that cannot be read, as what refuses a kit.
+fn refusal_of(fault: Fault) -> KitRefusal
+    ensures { result ≡ refusal_of fault }
+{
+    match fault {
+        Fault::Cut => KitRefusal::Cut,
+        Fault::Bad => KitRefusal::Misspelled,
+    }
+}
+
+// The number at a place, or what refuses a kit that has none there.
+fn read(bytes: &[u8], at: usize) -> Result<Found, KitRefusal>
+    ensures { result ≡ read_at bytes.now at }
+{
+    number::read_number(bytes, at).map_err(refusal_of)
+}
+
+// What is said of any bytes: each number goes before the judge once it is read.
+// The new form is no plainer: a number's place is known only once the one before it is read.
+pub fn check(bytes: &[u8]) -> Result<(), KitRefusal>
     ensures { result ≡ check_of bytes.now }
 {
     let mut judge = Judge::new();
-    let mut at: usize = 0;
+    let mut at = 0;
     loop {
-        match number::read_number(bytes, at) {
-            Found::Cut => {
-                return KitAnswer::Cut;
-            }
-            Found::Bad => {
-                return KitAnswer::Misspelled;
-            }
-            Found::Number { value, next } => {
-                let step = judge.feed(value);
-                let said = step.said;
-                match said {
-                    Said::Refused(answer) => {
-                        return answer;
-                    }
-                    Said::Done => {
-                        if next < bytes.len() {
-                            return KitAnswer::Excess;
-                        }
-                        return KitAnswer::Accepted;
-                    }
-                    Said::More => {
-                        judge = step.judge;
-                        at = next;
-                    }
-                }
-            }
+        let found = read(bytes, at)?;
+        at = found.next;
+        match judge.feed(found.value)? {
+            Progress::More => {}
+            Progress::Done if at < bytes.len() => return Err(KitRefusal::Excess),
+            Progress::Done => return Ok(()),
         }
     }
 }
 
 // The number at a place, or 0 where there is none.
 #[tactic(auto, unfolding(crate::specs::Reader::taken_at))]
-fn take(bytes: &[u8], at: usize) -> Taken
+fn take(bytes: &[u8], at: usize) -> Found
     ensures { result ≡ taken_at bytes.now at }
 {
-    match number::read_number(bytes, at) {
-        Found::Cut => Taken { value: 0, next: at },
-        Found::Bad => Taken { value: 0, next: at },
-        Found::Number { value, next } => Taken { value, next },
-    }
+    number::read_number(bytes, at).unwrap_or(Found { value: 0, next: at })
 }
 
-// So many numbers from a place on, to the front of what is lent. Gives the place after them.
-fn take_into(bytes: &[u8], at: usize, count: usize, out: &mut [u32]) -> usize
-    requires { count ≤ length out.old }
-    ensures { Stretched (stretch_at count bytes.now at) out.old out.new result }
+// The numbers from a place on, as many as there is room for in what is lent. Gives the place after them.
+fn take_into(bytes: &[u8], at: usize, out: &mut [u32]) -> usize
+    ensures { Stretched (stretch_at (length out.old) bytes.now at) out.new result }
 {
-    let mut i: usize = 0;
     let mut next = at;
-    while i < count {
-        let t = take(bytes, next);
-        out[i] = t.value;
-        next = t.next;
-        i = i + 1;
+    for slot in out {
+        let found = take(bytes, next);
+        *slot = found.value;
+        next = found.next;
     }
     next
 }
 
 // How many replicas there are: 2f+1, where f is at most 3.
 fn size_of(f: u32) -> usize
-    ensures { result ≡ size_of f }
+    ensures is { result ≡ size_of f }
+    ensures few { result ≤ 7 }
 {
-    if f > 3 {
-        return 0;
-    }
-    (f + f + 1) as usize
+    if f > 3 { 0 } else { (f + f + 1) as usize }
 }
 
 // The settings, and the place of the first event.
@@ -122,8 +103,8 @@ pub fn open(bytes: &[u8]) -> Settings
     let leader = take(bytes, f.next);
     let patience = take(bytes, leader.next);
     let size = size_of(f.value);
-    let mut table: [u32; 7] = [0; 7];
-    let at = take_into(bytes, patience.next, size, &mut table);
+    let mut table = [0; REPLICAS];
+    let at = take_into(bytes, patience.next, &mut table[..size]);
     let count = take(bytes, at);
     Settings {
         f: f.value,
@@ -137,56 +118,50 @@ pub fn open(bytes: &[u8]) -> Settings
 }
 
 // The requests of a history, with zeros behind them; the other kinds have none and leave the list. Gives the place after them.
-fn requests(bytes: &[u8], kind: Kind, at: usize, count: usize, list: &mut [u32; 64]) -> usize
+fn requests(bytes: &[u8], kind: Kind, at: usize, count: usize, list: &mut Requests) -> usize
     requires { count ≤ 64 }
     ensures { RequestsRead bytes.now kind at count list.old list.new result }
 {
     match kind {
-        Kind::Submit => at,
-        Kind::Issue => at,
-        Kind::Deliver => at,
-        Kind::Hand => at,
-        Kind::Panic => at,
-        Kind::Idle => at,
-        Kind::Build => at,
         Kind::File => {
-            *list = [0; 64];
-            take_into(bytes, at, count, list)
+            *list = [0; REQUESTS];
+            take_into(bytes, at, &mut list[..count])
         }
+        _ => at,
     }
 }
 
 // What follows a gap and a kind.
-fn event_of_kind(bytes: &[u8], gap: u32, kind: Kind, at: usize, list: &mut [u32; 64]) -> Next
+fn event_of_kind(bytes: &[u8], gap: u32, kind: Kind, at: usize, list: &mut Requests) -> Next
     ensures { OfKind bytes.now gap kind at list.old list.new result }
 {
-    let mut ops: [u32; 5] = [0; 5];
-    let count = grammar::operands::operand_count(kind) as usize;
-    let after = take_into(bytes, at, count, &mut ops);
-    let event = grammar::operands::event_of(kind, ops[0], ops[1], ops[2], ops[3], ops[4]);
-    let filed = grammar::operands::filed_by(kind, ops[1], ops[2]) as usize;
-    let next = requests(bytes, kind, after, filed, list);
+    let mut ops = [0; 5];
+    let row = operands::operands_of(kind);
+    let after = take_into(bytes, at, &mut ops[..row.len()]);
+    let event = operands::event_of(kind, &ops);
+    let count = operands::filed_by(kind, ops[1], ops[2]) as usize;
+    let next = requests(bytes, kind, after, count, list);
     Next {
         gap,
         event,
-        count: filed,
+        count,
         next,
     }
 }
 
 // The event at a place, and the place of the one after it; the requests that it files go to the list that is lent.
-pub fn next_event(bytes: &[u8], at: usize, list: &mut [u32; 64]) -> Next
+pub fn next_event(bytes: &[u8], at: usize, list: &mut Requests) -> Next
     ensures { Stepped bytes.now at list.old list.new result }
 {
     let gap = take(bytes, at);
     let number = take(bytes, gap.next);
-    match terms::kind_of(number.value) {
-        KindChoice::Refused => Next {
+    match Kind::try_from(number.value) {
+        Err(_) => Next {
             gap: gap.value,
             event: Event::Idle,
             count: 0,
             next: number.next,
         },
-        KindChoice::Kind(kind) => event_of_kind(bytes, gap.value, kind, number.next, list),
+        Ok(kind) => event_of_kind(bytes, gap.value, kind, number.next, list),
     }
 }

@@ -1,63 +1,27 @@
 // A kit as a lent slice of its numbers: written as bytes, and read back.
 ghost use Rattle.std.specs.Prelude.{◌≡◌, ◌≤◌, leb, length};
-ghost use Rattle.number.specs.Number.{over};
 ghost use Rattle.grammar.specs.Parser.{kit_answer};
 ghost use Rattle.kit.specs.Spelling.{spellings};
 ghost use Rattle.kit.specs.Reader.{numbers_in};
-ghost use Rattle.kit.specs.Writer.{is_accepted, KitWritten, KitRead, Put};
+ghost use Rattle.kit.specs.Writer.{KitWritten, KitRead, Put};
 
-use grammar::{Judge, Said};
-use number::{Found, Wrote};
-use terms::KitAnswer;
+use grammar::{Judge, Progress};
+use terms::KitRefusal;
 
-// What became of a kit that was written or read, and how many bytes or numbers were filled in.
-#[derive(Clone, Copy)]
-pub struct Outcome {
-    pub answer: KitAnswer,
-    pub count: usize,
-}
-
-fn is_accepted(answer: KitAnswer) -> bool
-    ensures { result ≡ is_accepted answer }
-{
-    match answer {
-        KitAnswer::Accepted => true,
-        KitAnswer::Cut => false,
-        KitAnswer::Misspelled => false,
-        KitAnswer::WrongSettings => false,
-        KitAnswer::WrongEvent => false,
-        KitAnswer::Excess => false,
-        KitAnswer::NoRoom => false,
-        KitAnswer::TooLong => false,
-    }
-}
-
-// The kit number of a kit that is given as its numbers.
-pub fn check_numbers(numbers: &[u32]) -> KitAnswer
+// What is said of a kit that is given as its numbers.
+#[tactic(auto, using(crate::proofs::Writing::hearing_first))]
+pub fn check_numbers(numbers: &[u32]) -> Result<(), KitRefusal>
     ensures { result ≡ kit_answer numbers.now }
 {
     let mut judge = Judge::new();
-    let mut i: usize = 0;
-    while i < numbers.len() {
-        let step = judge.feed(numbers[i]);
-        let said = step.said;
-        match said {
-            Said::Refused(answer) => {
-                return answer;
-            }
-            Said::Done => {
-                if i + 1 < numbers.len() {
-                    return KitAnswer::Excess;
-                }
-                return KitAnswer::Accepted;
-            }
-            Said::More => {
-                judge = step.judge;
-                i = i + 1;
-            }
+    for (i, &n) in numbers.iter().enumerate() {
+        match judge.feed(n)? {
+            Progress::More => {}
+            Progress::Done if i + 1 < numbers.len() => return Err(KitRefusal::Excess),
+            Progress::Done => return Ok(()),
         }
     }
-    KitAnswer::Cut
+    Err(KitRefusal::Cut)
 }
 
 // Whether the numbers' spellings have room.
@@ -65,14 +29,12 @@ fn has_room(numbers: &[u32], room: usize) -> bool
     ensures { result ≡ leb (length (spellings numbers.now)) room }
 {
     let mut left = room;
-    let mut i: usize = 0;
-    while i < numbers.len() {
-        let size = number::spelling_length(numbers[i]);
+    for &n in numbers {
+        let size = number::spelling_length(n);
         if size > left {
             return false;
         }
-        left = left - size;
-        i = i + 1;
+        left -= size;
     }
     true
 }
@@ -82,87 +44,53 @@ fn put(numbers: &[u32], out: &mut [u8]) -> usize
     requires { length (spellings numbers.now) ≤ length out.old }
     ensures { Put numbers.now out.old out.new result }
 {
-    let mut at: usize = 0;
-    let mut i: usize = 0;
-    while i < numbers.len() {
-        match number::write_number(out, at, numbers[i]) {
-            Wrote::Next(next) => {
-                at = next;
-                i = i + 1;
-            }
-            Wrote::NoRoom => {
-                return at;
-            }
+    let mut at = 0;
+    for &n in numbers {
+        match number::write_number(out, at, n) {
+            Some(next) => at = next,
+            None => return at,
         }
     }
     at
 }
 
-// Writes a kit. All its numbers are judged first, as a reader would, then the room; nothing is written before that.
+// Writes a kit, and gives how many bytes it has. All its numbers are judged first, as a reader would, then the room; nothing is written
+// before that.
 #[tactic(auto, unfolding(crate::specs::Writer::write_of))]
-pub fn write_kit(numbers: &[u32], out: &mut [u8]) -> Outcome
+pub fn write_kit(numbers: &[u32], out: &mut [u8]) -> Result<usize, KitRefusal>
     ensures { KitWritten numbers.now out.old out.new result }
 {
-    let judged = check_numbers(numbers);
-    if !is_accepted(judged) {
-        return Outcome {
-            answer: judged,
-            count: 0,
-        };
-    }
+    check_numbers(numbers)?;
     if !has_room(numbers, out.len()) {
-        return Outcome {
-            answer: KitAnswer::NoRoom,
-            count: 0,
-        };
+        return Err(KitRefusal::NoRoom);
     }
-    Outcome {
-        answer: KitAnswer::Accepted,
-        count: put(numbers, out),
-    }
+    Ok(put(numbers, out))
 }
 
 // How many numbers can be read from the first byte on.
+// The new form is no plainer: a number's place is known only once the one before it is read.
 fn count_numbers(bytes: &[u8]) -> usize
     ensures { result ≡ length (numbers_in bytes.now).list }
 {
-    let mut count: usize = 0;
-    let mut at: usize = 0;
-    loop {
-        match number::read_number(bytes, at) {
-            Found::Cut => {
-                return count;
-            }
-            Found::Bad => {
-                return count;
-            }
-            Found::Number { value, next } => {
-                at = next;
-                count = count + 1;
-            }
-        }
+    let mut count = 0;
+    let mut at = 0;
+    while let Ok(found) = number::read_number(bytes, at) {
+        at = found.next;
+        count += 1;
     }
+    count
 }
 
-// Reads a kit back as its numbers. The bytes are judged first, then the room; nothing is filled in before that.
+// Reads a kit back as its numbers, and gives how many there are. The bytes are judged first, then the room; nothing is filled in before that.
 #[tactic(auto, using(crate::proofs::Writing::stretch_numbers), unfolding(crate::specs::Writer::read_of))]
-pub fn read_kit(bytes: &[u8], numbers: &mut [u32]) -> Outcome
+pub fn read_kit(bytes: &[u8], numbers: &mut [u32]) -> Result<usize, KitRefusal>
     ensures { KitRead bytes.now numbers.old numbers.new result }
 {
-    let answer = crate::check(bytes);
-    if !is_accepted(answer) {
-        return Outcome { answer, count: 0 };
-    }
+    crate::check(bytes)?;
     let count = count_numbers(bytes);
     if count > numbers.len() {
-        return Outcome {
-            answer: KitAnswer::NoRoom,
-            count: 0,
-        };
+        return Err(KitRefusal::NoRoom);
     }
-    crate::take_into(bytes, 0, count, numbers);
-    Outcome {
-        answer: KitAnswer::Accepted,
-        count,
-    }
+    crate::take_into(bytes, 0, &mut numbers[..count]);
+    Ok(count)
 }

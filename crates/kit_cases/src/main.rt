@@ -5,7 +5,8 @@ use std::env::{Env, FillError};
 use std::rt::Files;
 use std::{fs, io};
 
-// An argument that is longer than its buffer reads as an empty one, which names no file.
+// An argument that is longer than its buffer reads as an empty one, which names no file. The arguments are read by their numbers, since std's
+// iterator over them allocates, and the project has no heap.
 fn main(rt: HostRuntime) -> io::Result<()> {
     let mut word = [0u8; 4095];
     for i in 1..usize::MAX {
@@ -34,11 +35,6 @@ fn judge_file(rt: &(impl Files + Print + Eprint), name: &str) -> io::Result<()> 
     };
     let mut bytes = [0u8; 4096];
     let n = stream::read_full(&mut file, &mut bytes)?;
-    print_number(rt, &bytes[..n])?;
-    println!(rt; "{name}")
-}
-
-fn print_number(rt: &impl Print, kit: &[u8]) -> io::Result<()> {
-    let number = terms::number_of_kit(kit::check(kit));
-    print!(rt; "{number} ")
+    let number = terms::number_of_kit(kit::check(&bytes[..n]));
+    println!(rt; "{number} {name}")
 }

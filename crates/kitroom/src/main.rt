@@ -16,15 +16,11 @@ use std::io;
 fn main(rt: HostRuntime) -> io::Result<()> {
     let mut word = [0u8; 4095];
     let length = first_argument(&rt, &mut word);
+    let asked = length.map(|length| &word[..length]);
     let mut bytes = [0u8; 65537];
     let n = stream::read_full(&mut rt.stdin(), &mut bytes)?;
     let mut out = [0u8; 131072];
-    let end = room_text::room_input(
-        &bytes[..n],
-        length.is_some(),
-        &word[..length.unwrap_or(0)],
-        &mut out,
-    );
+    let end = room_text::room_input(&bytes[..n], asked, &mut out);
     rt.write_all(&out[..end])
 }
 

@@ -1,6 +1,6 @@
 -- What is read one group after the other, as the reader does (`number_in`), is the number that `number_at` says (`number_at_in`).
 -- Assumes nothing.
-use Rattle.std.specs.Prelude.{ℕ, zero, suc, ◌+◌, ◌*◌, ◌%◌, ◌^◌, ◌<◌, ◌≤◌, List, [], ◌∷◌, ◌≡◌, refl, ◌&&◌, length, take, drop, get_or, ltb, leb, eqb}
+use Rattle.std.specs.Prelude.{Ok, Err, ℕ, zero, suc, ◌+◌, ◌*◌, ◌%◌, ◌^◌, ◌<◌, ◌≤◌, List, [], ◌∷◌, ◌≡◌, refl, ◌&&◌, length, take, drop, get_or, ltb, leb, eqb}
 use Rattle.std.proofs.Common.{sym, ap, ◌∙◌, pow-suc, mod-eq_of_lt, mod-lt, arith, lt-ltb, le-ltb, le-leb, eq-eqb, ne_eqb, get_or-take}
 use Rattle.std.proofs.Math.Bool.{and-false}
 use Rattle.std.proofs.Math.Logic.{by_cases}
@@ -8,10 +8,22 @@ use Rattle.std.proofs.Math.Nat.{one-le-pow}
 use Rattle.std.proofs.Math.Decide.{dec_lt}
 use Rattle.std.proofs.lemmas.Bool.{lt-leb}
 use Rattle.terms.specs.Lists.{pick}
-use Rattle.number.specs.Number.{going_on, last_group, value, head_value, judged, number_at}
+use Rattle.number.specs.Number.{Reading, Number, Cut, Bad, going_on, last_group, value, head_value, judged, number_at}
 use Rattle.number.specs.declared.Found.{Found}
-use Rattle.number.specs.declared.Found.TheVariants.{Number, Cut, Bad}
 use Rattle.number.specs.Groups.{under, number_in}
+
+-- the same reading is of the same number and the same place after it
+found_in : Reading → Found
+found_in (Ok found) = found
+found_in (Err fault) = record { value = 0; next = 0 }
+
+pub same_value : {v next v' next' : ℕ} → Number v next ≡ Number v' next' → v ≡ v'
+unfolding found_in
+same_value e = ap (λ (r : Reading). (found_in r).value) e
+
+pub same_next : {v next v' next' : ℕ} → Number v next ≡ Number v' next' → next ≡ next'
+unfolding found_in
+same_next e = ap (λ (r : Reading). (found_in r).next) e
 
 -- the byte after those that go on does not go on
 pub last_below : (s : List ℕ) → last_group s < 128
@@ -45,7 +57,7 @@ head_alone (b ∷ s) e z =
     absurd (omega arith))
 
 -- `judged` by the numbers alone: k groups go on, there are len bytes, the groups make v, the last is `last`
-abbrev verdict : (most limit at k len v last : ℕ) → Found
+abbrev verdict : (most limit at k len v last : ℕ) → Reading
 verdict most limit at k len v last =
     pick (leb most k) Bad
     (pick (leb len k) Cut (pick (leb limit v) Bad (pick (eqb last 0 && ltb 0 k) Bad (Number v (at + (k + 1))))))

@@ -1,7 +1,7 @@
 -- Laws of a kit's numbers. In order: what is written reads back; the bytes that read as a number are its one spelling; a spelling's length and
 -- bytes; where a read ends, and that it looks only at the bytes from its place on; what writing changes.
 -- Definitions: `Number`. Why a read has its answer: `ReasonLaws`. Assumes nothing.
-use Rattle.std.specs.Prelude.{◌≡◌, refl, List, [], ◌∷◌, ◌++◌, Bool, true, false, ℕ, zero, suc, ◌+◌, ◌-◌, ◌*◌, ◌/◌, ◌%◌, ◌^◌, ◌<◌, ◌≤◌, length, take, drop, get_or}
+use Rattle.std.specs.Prelude.{Option, Some, None, Ok, Err, ◌≡◌, refl, List, [], ◌∷◌, ◌++◌, Bool, true, false, ℕ, zero, suc, ◌+◌, ◌-◌, ◌*◌, ◌/◌, ◌%◌, ◌^◌, ◌<◌, ◌≤◌, length, take, drop, get_or}
 use Rattle.std.proofs.Common.{sym, ap, ◌∙◌, append_assoc, pow-suc, div-add-mod', add_assoc, arith, lt-ltb, le-ltb, le-leb, ne_eqb, eq-eqb, length-append, length-drop, drop_of_length-le, drop_at, take_at, length-take-le, get_or-drop, drop-drop}
 use Rattle.std.proofs.Math.Logic.{by_cases}
 use Rattle.std.proofs.Math.Nat.{one-le-pow}
@@ -10,14 +10,10 @@ use Rattle.std.proofs.lemmas.Bool.{lt-leb}
 use Rattle.std.proofs.Math.Seq.{drop-append_seam, drop-append-add}
 use Rattle.terms.specs.Lists.{pick}
 use Rattle.terms.specs.ListLaws.{no_way}
-use Rattle.number.specs.Number.{Bytes, judged, number_at, moved, spelling, spelling_in, over, Written}
+use Rattle.number.specs.Number.{Reading, Number, Cut, Bad, Bytes, judged, number_at, moved, spelling, spelling_in, over, Written}
 use Rattle.number.specs.Groups.{under, number_in}
-use Rattle.number.proofs.GroupLaws.{number_at_in}
+use Rattle.number.proofs.GroupLaws.{number_at_in, same_value, same_next}
 use Rattle.number.proofs.ReasonLaws.{cut_exactly, number_exactly}
-use Rattle.number.specs.declared.Found.{Found}
-use Rattle.number.specs.declared.Found.TheVariants.{Number, Cut, Bad}
-use Rattle.number.specs.declared.Wrote.{Wrote}
-use Rattle.number.specs.declared.Wrote.TheVariants.{Next, NoRoom}
 
 -- ---- what is written reads back
 
@@ -63,20 +59,21 @@ pub spelling_in_more : (more n : ℕ) → 128 ≤ n → spelling_in (suc more) n
 spelling_in_more more n h = simp (le-ltb n 128 h)
 
 -- what a number says of its later groups, where they stand over the lowest bits g
-record Over (g v next : ℕ) (later : Found) : Type 0 where
+record Over (g v next : ℕ) (later : Reading) : Type 0 where
   pub rest : ℕ
   pub is : later ≡ Number rest next
   pub some : 0 < rest
   pub value : v ≡ rest * 128 + g
 
-over_low : (g v next : ℕ) (later : Found) → under 128 g later ≡ Number v next → Over g v next later
-over_low g v next Cut e = no_way (cc)
-over_low g v next Bad e = no_way (cc)
-over_low g v next (Number w n) e =
+over_low : (g v next : ℕ) (later : Reading) → under 128 g later ≡ Number v next → Over g v next later
+over_low g v next (Err fault) e = no_way (cc)
+over_low g v next (Ok found) e =
+    let w = found.value in
+    let n = found.next in
     by_cases (dec_lt 0 w)
     (λ some.
     let e' : Number (w * 128 + g) n ≡ Number v next = simp (ne_eqb w 0 (λ z. omega arith)) at e in
-    record { rest = w; is = cc; some = some; value = cc })
+    record { rest = w; is = ap (Number w) (same_next e'); some = some; value = sym (same_value e') })
     (λ no. let e' : Bad ≡ Number v next = simp (eq-eqb w 0 (omega arith)) at e in no_way (cc))
 
 -- bytes that read as v, which may have `more` groups after the first, start with its spelling
@@ -92,15 +89,16 @@ in_spelled zero at v next (b ∷ s) bytes e =
     by_cases (dec_lt b 16)
     (λ lt.
     let e' : Number b (at + 1) ≡ Number v next = simp (lt-ltb b 16 lt) at e in
-    let ev : b ≡ v = cc in
+    let ev : b ≡ v = same_value e' in
+    let en : at + 1 ≡ next = same_next e' in
     record { rest = s; bytes = cc; ends = cc; small = omega arith })
     (λ ge. let e' : Bad ≡ Number v next = simp (le-ltb b 16 (omega arith)) at e in no_way (cc))
 in_spelled (suc more) at v next (b ∷ s) bytes e =
     by_cases (dec_lt b 128)
     (λ lt.
     let e' : Number b (at + 1) ≡ Number v next = simp (lt-ltb b 128 lt) at e in
-    let ev : b ≡ v = cc in
-    let en : at + 1 ≡ next = cc in
+    let ev : b ≡ v = same_value e' in
+    let en : at + 1 ≡ next = same_next e' in
     let sp : spelling_in (suc more) v ≡ v ∷ [] = spelling_in_last (suc more) v (omega arith) in
     record { rest = s; bytes = rw sp (cc); ends = rw sp (sym en); small = rw (pow-suc 128 more) (omega (arith, one-le-pow more 128 (omega arith))) })
     (λ ge.
@@ -175,7 +173,7 @@ moves_on_lem s at v next e =
 pub past_end : (s : List ℕ) (at : ℕ) → length s ≤ at → number_at s at ≡ Cut
 past_end s at h = (cut_exactly s at).1 (rw (drop_of_length-le s h) (record { few = omega arith; all = omega arith }))
 
-moved_pick : (far : ℕ) (t : Bool) (a b : Found) → moved far (pick t a b) ≡ pick t (moved far a) (moved far b)
+moved_pick : (far : ℕ) (t : Bool) (a b : Reading) → moved far (pick t a b) ≡ pick t (moved far a) (moved far b)
 moved_pick far true a b = refl
 moved_pick far false a b = refl
 
@@ -213,15 +211,15 @@ module _ (s : List ℕ) (at : ℕ) (vs : List ℕ) (fits : at + length vs ≤ le
       rw (before, after) (rw (length-append vs ws, append_assoc (take at s) vs ws, add_assoc at (length vs) (length ws)))
 
 -- what a write that was asked for at a place did
-module _ {s s' : List ℕ} {at n : ℕ} {r : Wrote} (w : Written s s' at n r) where
-  pub written_next : at + length (spelling n) ≤ length s → (r ≡ Next (at + length (spelling n))) × (s' ≡ over s at (spelling n))
+module _ {s s' : List ℕ} {at n : ℕ} {r : Option ℕ} (w : Written s s' at n r) where
+  pub written_next : at + length (spelling n) ≤ length s → (r ≡ Some (at + length (spelling n))) × (s' ≡ over s at (spelling n))
   written_next fits = let t = le-leb (at + length (spelling n)) (length s) fits in (w.answer ∙ simp t, w.bytes ∙ simp t)
 
-  pub written_none : length s < at + length (spelling n) → (r ≡ NoRoom) × (s' ≡ s)
+  pub written_none : length s < at + length (spelling n) → (r ≡ None) × (s' ≡ s)
   written_none less = let t = lt-leb (at + length (spelling n)) (length s) less in (w.answer ∙ simp t, w.bytes ∙ simp t)
 
   -- the place after what was written is within the slice
-  pub written_within : {next : ℕ} → r ≡ Next next → next ≤ length s'
+  pub written_within : {next : ℕ} → r ≡ Some next → next ≤ length s'
   written_within {next} e =
       by_cases (dec_lt (length s) (at + length (spelling n)))
       (λ less. no_way (cc ((written_none less).0, e)))
@@ -231,5 +229,5 @@ module _ {s s' : List ℕ} {at n : ℕ} {r : Wrote} (w : Written s s' at n r) wh
       rw (w'.1, length_over s at (spelling n) (omega arith)) (omega arith))
 
 -- the promise fixes the answer and every byte
-pub written_one : {s s₁ s₂ : List ℕ} {at n : ℕ} {r₁ r₂ : Wrote} → Written s s₁ at n r₁ → Written s s₂ at n r₂ → (r₁ ≡ r₂) × (s₁ ≡ s₂)
+pub written_one : {s s₁ s₂ : List ℕ} {at n : ℕ} {r₁ r₂ : Option ℕ} → Written s s₁ at n r₁ → Written s s₂ at n r₂ → (r₁ ≡ r₂) × (s₁ ≡ s₂)
 written_one v w = (v.answer ∙ sym w.answer, v.bytes ∙ sym w.bytes)

@@ -1,16 +1,14 @@
 -- A read's first group, and the loop of `later` behind it, on plain values: s are the bytes, i the place, bits what the groups
 -- before it make, below 2 ^ shift. What holds at the loop's head (`Head`): the groups from i on, over those bits, say what the whole says.
 -- Assumes nothing.
-use Rattle.std.proofs.Common.{◌≡◌, refl, sym, ap, ◌∙◌, List, false, ℕ, suc, ◌+◌, ◌-◌, ◌*◌, ◌%◌, ◌^◌, ◌<◌, ◌≤◌, add-mul, mul_assoc, add_assoc, mul_comm, mod-eq_of_lt, mod-lt, lt_of_lt_of_le, add-one, arith, lt-ltb, le-ltb, eq-eqb, ne_eqb, ltb, eqb, length, get_or, drop, drop-cons, pow-add, pow_pos, pow_mono, shl_lt}
+use Rattle.std.proofs.Common.{zero, [], ◌∷◌, Ok, Err, ◌≡◌, refl, ap, ◌∙◌, List, false, ℕ, suc, ◌+◌, ◌-◌, ◌*◌, ◌%◌, ◌^◌, ◌<◌, ◌≤◌, add-mul, mul_assoc, add_assoc, mul_comm, mod-eq_of_lt, mod-lt, lt_of_lt_of_le, add-one, arith, le-ltb, ltb-true, true, eq-eqb, ne_eqb, ltb, eqb, length, get_or, drop, drop-cons, pow-add, pow_pos, pow_mono, shl_lt}
 use Rattle.std.proofs.Math.Arith.{digits_lt}
 use Rattle.std.proofs.Math.Decide.{dec_lt}
 use Rattle.std.proofs.Math.Logic.{by_cases}
 use Rattle.terms.specs.Lists.{pick}
-use Rattle.number.specs.Number.{number_at}
+use Rattle.number.specs.Number.{Reading, Number, number_at}
 use Rattle.number.specs.Groups.{under, number_in}
 use Rattle.number.proofs.GroupLaws.{number_at_in}
-use Rattle.number.specs.declared.Found.{Found}
-use Rattle.number.specs.declared.Found.TheVariants.{Number, Cut, Bad}
 
 -- ---- one group at a place
 
@@ -25,26 +23,33 @@ module _ (s : List ℕ) (at : ℕ) (within : at < length s) where
   abbrev b₁ : ℕ
   b₁ = get_or s at 0
 
-  pub first_alone : b₁ < 128 → Number (b₁ % 128) (at + 1) ≡ number_at s at
-  first_alone lt = sym (number_at_in s at ∙ simp (in_more 3 at s within, lt-ltb b₁ 128 lt, mod-eq_of_lt lt))
+  pub first_alone : ltb b₁ 128 ≡ true → number_at s at ≡ Number (b₁ % 128) (at + 1)
+  first_alone t = number_at_in s at ∙ simp (in_more 3 at s within, t, mod-eq_of_lt (ltb-true b₁ 128 t))
 
-  pub first_more : 128 ≤ b₁ → under 128 (b₁ % 128) (number_in 3 (at + 1) (drop (at + 1) s)) ≡ number_at s at
-  first_more ge = sym (number_at_in s at ∙ simp (in_more 3 at s within, le-ltb b₁ 128 ge))
+  pub first_more : ltb b₁ 128 ≡ false → number_at s at ≡ under 128 (b₁ % 128) (number_in 3 (at + 1) (drop (at + 1) s))
+  first_more t = number_at_in s at ∙ simp (in_more 3 at s within, t)
 
 -- ---- the loop
 
 -- a group under the later ones, and bits under both, are the two together under the later ones
-under_under : (weight low g : ℕ) (later : Found) → 0 < weight → under weight low (under 128 g later) ≡ under (weight * 128) (g * weight + low) later
-under_under weight low g Cut h = refl
-under_under weight low g Bad h = refl
-under_under weight low g (Number v next) h =
-    by_cases (dec_lt 0 v)
+under_under : (weight low g : ℕ) (later : Reading) → 0 < weight → under weight low (under 128 g later) ≡ under (weight * 128) (g * weight + low) later
+under_under weight low g (Err fault) h = refl
+under_under weight low g (Ok found) h =
+    by_cases (dec_lt 0 found.value)
     (λ some.
+    let v = found.value in
     let e : eqb v 0 ≡ false = ne_eqb v 0 (λ z. omega arith) in
     let e' : eqb (v * 128 + g) 0 ≡ false = ne_eqb (v * 128 + g) 0 (λ z. omega arith) in
     let q : (v * 128 + g) * weight + low ≡ v * (weight * 128) + (g * weight + low) = simp (add-mul, mul_assoc, mul_comm 128 weight, add_assoc) in
-    simp (e, e') (ap (λ (n : ℕ). Number n next) q))
-    (λ no. simp (eq-eqb v 0 (omega arith)))
+    simp (e, e') (ap (λ (n : ℕ). Number n found.next) q))
+    (λ no. simp (eq-eqb found.value 0 (omega arith)))
+
+-- how far the groups after the first are shifted
+pub shift_at : (k : ℕ) → k < 3 → get_or (7 ∷ 14 ∷ 21 ∷ []) k 0 ≡ 7 + 7 * k
+shift_at zero h = refl
+shift_at (suc zero) h = refl
+shift_at (suc (suc zero)) h = refl
+shift_at (suc (suc (suc k))) h = absurd (omega arith)
 
 -- what holds at the loop's head; `more` groups may follow the one at i
 pub record Head (s : List ℕ) (at first bits shift i : ℕ) : Type 0 where
@@ -58,7 +63,7 @@ head_first s at first h = record { more = 3; left = refl; small = h; same = refl
 
 module _ {s : List ℕ} {at first bits shift i : ℕ} (head : Head s at first bits shift i) where
   -- what the function is to return
-  abbrev whole : Found
+  abbrev whole : Reading
   whole = under 128 first (number_in 3 at (drop at s))
 
   -- one more group has room in 32 bits

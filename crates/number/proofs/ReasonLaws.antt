@@ -1,7 +1,7 @@
 -- Why a read has the answer that it has: each answer exactly by its reason (`cut_exactly`, `bad_exactly`, `number_exactly`, and by the kit's
 -- numbers `one_exactly`, `two_exactly`), no two reasons at once, and that a fifth byte above 0F decides.
 -- Definitions: `Number`. Assumes nothing.
-use Rattle.std.specs.Prelude.{◌≡◌, refl, List, [], ◌∷◌, false, ◌&&◌, ◌↔◌, ◌⊎◌, ℕ, suc, ◌+◌, ◌*◌, ◌^◌, ◌<◌, ◌≤◌, ltb, leb, eqb, length, drop}
+use Rattle.std.specs.Prelude.{Ok, Err, ◌≡◌, refl, List, [], ◌∷◌, false, ◌&&◌, ◌↔◌, ◌⊎◌, ℕ, suc, ◌+◌, ◌*◌, ◌^◌, ◌<◌, ◌≤◌, ltb, leb, eqb, length, drop}
 use Rattle.std.proofs.Common.{sym, ap, ◌∙◌, inl, inr, ⊎_elim, mod-eq_of_lt, mod-lt, mul_assoc, arith, lt-ltb, le-ltb, le-leb, ne_eqb, eq-eqb}
 use Rattle.std.proofs.Math.Bool.{and-false}
 use Rattle.std.proofs.Math.Logic.{by_cases}
@@ -10,12 +10,11 @@ use Rattle.std.proofs.Math.Decide.{dec_lt}
 use Rattle.std.proofs.lemmas.Bool.{lt-leb}
 use Rattle.terms.specs.Lists.{pick}
 use Rattle.terms.specs.ListLaws.{no_way}
-use Rattle.number.specs.Number.{going_on, last_group, head_value, ends_idle, judged, number_at, fault_number}
+use Rattle.number.specs.Number.{Reading, Number, Cut, Bad, going_on, last_group, head_value, ends_idle, judged, number_at, fault_number}
 use Rattle.number.specs.Number.{TooLong, EndsTooSoon, Ends, TooLarge, NotShortest, Misspelled, Whole}
+use Rattle.number.specs.declared.Fault.TheVariants as Fault
 use Rattle.number.specs.Groups.{number_in}
-use Rattle.number.proofs.GroupLaws.{number_at_in}
-use Rattle.number.specs.declared.Found.{Found}
-use Rattle.number.specs.declared.Found.TheVariants.{Number, Cut, Bad}
+use Rattle.number.proofs.GroupLaws.{number_at_in, same_value, same_next}
 
 -- two facts of numbers, both or not
 both : (a k : ℕ) → ((a ≡ 0) × (0 < k)) ⊎ (a ≡ 0 → 0 < k → ⊥)
@@ -32,7 +31,7 @@ not_both a k h =
 
 -- s are the bytes from `at` on
 module _ (at : ℕ) (s : List ℕ) where
-  abbrev answer : Found
+  abbrev answer : Reading
   answer = judged 5 (2 ^ 32) at s
 
   too_long : TooLong s → answer ≡ Bad
@@ -107,8 +106,8 @@ module _ (at : ℕ) (s : List ℕ) where
   number_reason (is_idle h) e = no_way (cc (not_shortest h, e))
   number_reason {v} {next} (is_whole h) e =
       let f : Number (head_value s) (at + (going_on s + 1)) ≡ Number v next = sym (whole h) ∙ e in
-      let ev : head_value s ≡ v = cc f in
-      let en : at + (going_on s + 1) ≡ next = cc f in
+      let ev : head_value s ≡ v = same_value f in
+      let en : at + (going_on s + 1) ≡ next = same_next f in
       record { ends = h.ends; is = sym ev; small = rw (← ev) h.small; shortest = h.shortest; counted = sym en }
 
 pub cut_exactly : (s : List ℕ) (at : ℕ) → (number_at s at ≡ Cut) ↔ EndsTooSoon (drop at s)
@@ -127,15 +126,15 @@ number_exactly s at v next = (number_reason at (drop at s) (reason at (drop at s
 
 -- the same by the kit's numbers
 
-one_cut : (f : Found) → fault_number f ≡ 1 → f ≡ Cut
-one_cut (Number v next) e = absurd (omega arith)
-one_cut Cut e = refl
-one_cut Bad e = absurd (omega arith)
+one_cut : (f : Reading) → fault_number f ≡ 1 → f ≡ Cut
+one_cut (Ok found) e = absurd (omega arith)
+one_cut (Err Fault.Cut) e = refl
+one_cut (Err Fault.Bad) e = absurd (omega arith)
 
-two_bad : (f : Found) → fault_number f ≡ 2 → f ≡ Bad
-two_bad (Number v next) e = absurd (omega arith)
-two_bad Cut e = absurd (omega arith)
-two_bad Bad e = refl
+two_bad : (f : Reading) → fault_number f ≡ 2 → f ≡ Bad
+two_bad (Ok found) e = absurd (omega arith)
+two_bad (Err Fault.Cut) e = absurd (omega arith)
+two_bad (Err Fault.Bad) e = refl
 
 pub one_exactly : (s : List ℕ) (at : ℕ) → (fault_number (number_at s at) ≡ 1) ↔ EndsTooSoon (drop at s)
 one_exactly s at = (λ e. (cut_exactly s at).0 (one_cut (number_at s at) e), λ h. ap fault_number ((cut_exactly s at).1 h))

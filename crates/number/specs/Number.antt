@@ -1,18 +1,29 @@
 -- A kit's number: groups of seven bits, the lowest first, the top bit set on every group but the last; at most five groups, the value below
 -- 2^32, the shortest form only. What bytes say at a place, how a number is spelled, and what writing one leaves of a lent slice.
 -- Laws: `NumberLaws`. Assumes nothing.
-use Rattle.std.specs.Prelude.{ℕ, zero, suc, ◌+◌, ◌*◌, ◌/◌, ◌%◌, ◌^◌, ◌<◌, ◌≤◌, List, [], ◌∷◌, ◌++◌, ◌≡◌, ◌⊎◌, Bool, ◌&&◌, length, take, drop, get_or, ltb, leb, eqb}
+use Rattle.std.specs.Prelude.{Option, Some, None, Result, Ok, Err, ℕ, zero, suc, ◌+◌, ◌*◌, ◌/◌, ◌%◌, ◌^◌, ◌<◌, ◌≤◌, List, [], ◌∷◌, ◌++◌, ◌≡◌, ◌⊎◌, Bool, ◌&&◌, length, take, drop, get_or, ltb, leb, eqb}
 use Rattle.terms.specs.Lists.{pick}
 use Rattle.number.specs.declared.Found.{Found}
-use Rattle.number.specs.declared.Found.TheVariants.{Number, Cut, Bad}
-use Rattle.number.specs.declared.Wrote.{Wrote}
-use Rattle.number.specs.declared.Wrote.TheVariants.{Next, NoRoom}
+use Rattle.number.specs.declared.Fault.{Fault}
 
 -- every element is a byte, as in each slice of bytes
 abbrev pub Bytes : List ℕ → Type 0
 Bytes s = (i : ℕ) → get_or s i 0 < 256
 
 -- ---- what bytes say
+
+-- a number and the place after it, or why there is none
+abbrev pub Reading : Type 0
+Reading = Result Found Fault
+
+abbrev pub Number : ℕ → ℕ → Reading
+Number value next = Ok (record { value = value; next = next })
+
+abbrev pub Cut : Reading
+Cut = Err Fault.Cut
+
+abbrev pub Bad : Reading
+Bad = Err Fault.Bad
 
 -- how many bytes go on, which is to say have the top bit set, before the first that does not
 abbrev pub going_on : List ℕ → ℕ
@@ -38,7 +49,7 @@ ends_idle s = eqb (last_group s) 0 && ltb 0 (going_on s)
 
 -- what the bytes s say, which stand from `at` on, where so many groups are the most and the value is below the limit; that there are more
 -- groups is told as soon as the last that may be goes on, whatever follows
-abbrev pub judged : ℕ → ℕ → ℕ → List ℕ → Found
+abbrev pub judged : ℕ → ℕ → ℕ → List ℕ → Reading
 judged most limit at s =
     pick (leb most (going_on s)) Bad
     (pick (leb (length s) (going_on s)) Cut
@@ -46,20 +57,19 @@ judged most limit at s =
     (pick (ends_idle s) Bad (Number (head_value s) (at + (going_on s + 1))))))
 
 -- what some bytes say at a place: a number and the place after it, or that there is none
-unfoldable pub number_at : List ℕ → ℕ → Found
+unfoldable pub number_at : List ℕ → ℕ → Reading
 number_at s at = judged 5 (2 ^ 32) at (drop at s)
 
 -- the kit's number for it: 1 where the bytes end too soon, 2 for a bad spelling, 0 where nothing is wrong
-abbrev pub fault_number : Found → ℕ
-fault_number (Number value next) = 0
-fault_number Cut = 1
-fault_number Bad = 2
+abbrev pub fault_number : Reading → ℕ
+fault_number (Ok found) = 0
+fault_number (Err Fault.Cut) = 1
+fault_number (Err Fault.Bad) = 2
 
 -- the same answer for bytes that stand so many places further on
-abbrev pub moved : ℕ → Found → Found
-moved far (Number value next) = Number value (far + next)
-moved far Cut = Cut
-moved far Bad = Bad
+abbrev pub moved : ℕ → Reading → Reading
+moved far (Ok found) = Number found.value (far + found.next)
+moved far (Err fault) = Err fault
 
 -- ---- why there is a number or none; s are the bytes from the place on
 
@@ -122,6 +132,6 @@ abbrev pub has_room : List ℕ → ℕ → ℕ → Bool
 has_room s at n = leb (at + length (spelling n)) (length s)
 
 -- s' is what is left of s after n is written at a place, and r is the answer: with no room for it nothing is written
-pub record Written (s s' : List ℕ) (at n : ℕ) (r : Wrote) : Type 0 where
-  pub answer : r ≡ pick (has_room s at n) (Next (at + length (spelling n))) NoRoom
+pub record Written (s s' : List ℕ) (at n : ℕ) (r : Option ℕ) : Type 0 where
+  pub answer : r ≡ pick (has_room s at n) (Some (at + length (spelling n))) None
   pub bytes : s' ≡ pick (has_room s at n) (over s at (spelling n)) s

@@ -1,7 +1,6 @@
 -- The paper's own spellings (P1 to P3), computed by the definition. Assumes nothing.
 use Rattle.std.specs.Prelude.{◌≡◌, refl, [], ◌∷◌, ◌-◌, ◌^◌}
-use Rattle.number.specs.Number.{number_at}
-use Rattle.number.specs.declared.Found.TheVariants.{Number, Bad}
+use Rattle.number.specs.Number.{number_at, Number, Bad}
 
 -- 80 00 is not the shortest form
 pub p1 : number_at (0x80 ∷ 0x00 ∷ []) 0 ≡ Bad

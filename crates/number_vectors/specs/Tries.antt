@@ -1,9 +1,7 @@
 -- Where a try goes on: after the number that was read, or at the end of the bytes after a refusal. Assumes nothing.
-use Rattle.std.specs.Prelude.{ℕ}
-use Rattle.number.specs.declared.Found.{Found}
-use Rattle.number.specs.declared.Found.TheVariants.{Number, Cut, Bad}
+use Rattle.std.specs.Prelude.{Ok, Err, ℕ}
+use Rattle.number.specs.Number.{Reading}
 
-abbrev pub place_after : ℕ → Found → ℕ
-place_after end (Number value next) = next
-place_after end Cut = end
-place_after end Bad = end
+abbrev pub place_after : ℕ → Reading → ℕ
+place_after end (Ok found) = found.next
+place_after end (Err fault) = end

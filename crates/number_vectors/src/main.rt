@@ -4,9 +4,9 @@
 #![tactic(auto)]
 
 ghost use Rattle.std.specs.Prelude.{◌≡◌, ◌≤◌, length, take};
-ghost use Rattle.number.specs.Number.{number_at};
 ghost use Rattle.number_vectors.specs.Tries.{place_after};
 
+use number::{Fault, Found};
 use std::io;
 
 fn main(rt: HostRuntime) -> io::Result<()> {
@@ -15,32 +15,12 @@ fn main(rt: HostRuntime) -> io::Result<()> {
     try_lines(&rt, &text[..n])
 }
 
+// The last line needs no line end.
 fn try_lines(rt: &impl Print, text: &[u8]) -> io::Result<()> {
-    let mut at: usize = 0;
-    while at < text.len() {
-        let end = line_end(text, at);
-        try_line(rt, &text[at..end])?;
-        if end == text.len() {
-            return Ok(());
-        }
-        at = end + 1;
+    for line in text.split_inclusive(|c| *c == b'\n') {
+        try_line(rt, line.strip_suffix(b"\n").unwrap_or(line))?;
     }
     Ok(())
-}
-
-// The place of the line's end, or of the text's.
-fn line_end(text: &[u8], at: usize) -> usize
-    requires { at ≤ length text.now }
-    ensures { (at ≤ result) × (result ≤ length text.now) }
-{
-    let mut i = at;
-    while i < text.len() {
-        if text[i] == b'\n' {
-            return i;
-        }
-        i = i + 1;
-    }
-    i
 }
 
 // Tries the bytes of a line, at most 32.
@@ -50,87 +30,66 @@ fn try_line(rt: &impl Print, hex: &[u8]) -> io::Result<()> {
     try_bytes(rt, &bytes[..count])
 }
 
-// Puts the bytes that hexadecimal digits spell at the start of out, and answers how many there are. Each digit shifts into its byte, so
-// that two of them leave nothing of what the byte was. What is no digit is passed over.
+// Puts the bytes that hexadecimal digits spell, two for each, at the start of out, and answers how many there are. What is no digit is
+// passed over.
 fn unhex(hex: &[u8], out: &mut [u8]) -> usize
     ensures within { result ≤ length out.new }
     ensures prefix { result ≡ length (take result out.new) }
 {
-    let mut digits: usize = 0;
-    let mut i: usize = 0;
-    while i < hex.len() {
-        let d = digit(hex[i]);
-        i = i + 1;
-        let to = digits / 2;
-        if d < 16 && to < out.len() {
-            out[to] = out[to] << 4 | d;
-            digits = digits + 1;
-        }
+    let size = out.len();
+    let mut digits = hex.iter().filter_map(|c| char::from(*c).to_digit(16));
+    for (i, byte) in out.iter_mut().enumerate() {
+        let (Some(high), Some(low)) = (digits.next(), digits.next()) else {
+            return i;
+        };
+        *byte = (16 * high + low) as u8;
     }
-    digits / 2
+    size
 }
 
-// A hexadecimal digit's value; 16 for what is none.
-fn digit(c: u8) -> u8 {
-    if c >= b'0' && c <= b'9' {
-        return c - b'0';
-    }
-    if c >= b'a' && c <= b'f' {
-        return c - b'a' + 10;
-    }
-    if c >= b'A' && c <= b'F' {
-        return c - b'A' + 10;
-    }
-    16
-}
-
-// Reads the bytes to their end or to the first fault; no bytes are one fault.
+// Reads the bytes to their end or to the first fault; no bytes are one fault. A loop by places: where a number ends is known once it is read.
 #[tactic(auto, using(crate::proofs::Forward::forward))]
 fn try_bytes(rt: &impl Print, bytes: &[u8]) -> io::Result<()> {
-    let (mut at, printed) = try_place(rt, bytes, 0);
-    printed?;
-    while at < bytes.len() {
-        rt.write_all(b", ")?;
-        let (next, printed) = try_place(rt, bytes, at);
-        printed?;
-        at = next;
-    }
-    rt.write_all(b"\n")
-}
-
-// Prints what stands at a place, and answers where to go on, and whether it was printed.
-fn try_place(rt: &impl Print, bytes: &[u8], at: usize) -> (usize, io::Result<()>)
-    ensures { result.0 ≡ place_after (length bytes.now) (number_at bytes.now at) }
-{
-    match number::read_number(bytes, at) {
-        number::Found::Number { value, next } => {
-            let printed = print_number(rt, value, next);
-            (next, printed)
+    let mut at = 0;
+    loop {
+        let found = number::read_number(bytes, at);
+        print_found(rt, found)?;
+        at = place_after(found, bytes.len());
+        if bytes.len() <= at {
+            return rt.write_all(b"\n");
         }
-        number::Found::Cut => (bytes.len(), rt.write_all(b"1")),
-        number::Found::Bad => (bytes.len(), rt.write_all(b"2")),
+        rt.write_all(b", ")?;
     }
 }
 
-fn print_number(rt: &impl Print, value: u32, next: usize) -> io::Result<()> {
+// Where to go on: after the number that was read, or at the end after a fault.
+fn place_after(found: Result<Found, Fault>, end: usize) -> usize
+    ensures { result ≡ place_after end found }
+{
+    found.map_or(end, |found| found.next)
+}
+
+fn print_found(rt: &impl Print, found: Result<Found, Fault>) -> io::Result<()> {
+    match found {
+        Ok(found) => print_number(rt, found),
+        Err(Fault::Cut) => rt.write_all(b"1"),
+        Err(Fault::Bad) => rt.write_all(b"2"),
+    }
+}
+
+fn print_number(rt: &impl Print, found: Found) -> io::Result<()> {
+    let Found { value, next } = found;
     print!(rt; "{value} {next} =")?;
     let mut out = [0u8; 5];
     match number::write_number(&mut out, 0, value) {
-        number::Wrote::Next(size) => print_bytes(rt, &out[..size]),
-        number::Wrote::NoRoom => rt.write_all(b" no room"),
+        Some(size) => print_bytes(rt, &out[..size]),
+        None => rt.write_all(b" no room"),
     }
 }
 
 fn print_bytes(rt: &impl Print, bytes: &[u8]) -> io::Result<()> {
-    let mut i: usize = 0;
-    while i < bytes.len() {
-        let byte = wide(bytes[i]);
+    for byte in bytes {
         print!(rt; " {byte:02x}")?;
-        i = i + 1;
     }
     Ok(())
-}
-
-fn wide(b: u8) -> u64 {
-    b as u64
 }

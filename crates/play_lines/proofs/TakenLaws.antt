@@ -1,10 +1,9 @@
 -- Laws of Taken: of a kit with an event that is taken, and of a kit into which a hand of the built history has been put: up to there the lines are those
 -- of the kit, and the line of the hand ends in 0. Assumes nothing.
-use Rattle.std.specs.Prelude.{◌≡◌, ℕ, suc, ◌+◌, ◌≤◌, ◌<◌, length}
+use Rattle.std.specs.Prelude.{◌≡◌, ℕ, suc, ◌+◌, ◌≤◌, ◌<◌, length, Some}
 use Rattle.std.proofs.Common.{◌∙◌, arith}
-use Rattle.std.proofs.Math.Option.{some}
 use Rattle.terms.specs.Kit.{Kit}
-use Rattle.terms.specs.declared.Answer.TheVariants.{Taken}
+use Rattle.terms.specs.Numbers.{Taken}
 use Rattle.rules.specs.Play.{after, answer}
 use Rattle.rules.proofs.Agreement.HandedIn.{PlaysHandedIn}
 use Rattle.play_lines.specs.Lines.{event_line}
@@ -14,7 +13,7 @@ use Rattle.play_lines.specs.Without.{text_with}
 use Rattle.play_lines.specs.Taken.{text_taken}
 use Rattle.play_lines.proofs.WithoutLaws.{text_with_lem}
 
-pub text_taken_lem : (kit : Kit) (n : ℕ) → n < length kit.events → answer kit n ≡ some Taken → text_of_play kit ≡ text_taken n (after kit (suc n)).clock kit kit
+pub text_taken_lem : (kit : Kit) (n : ℕ) → n < length kit.events → answer kit n ≡ Some Taken → text_of_play kit ≡ text_taken n (after kit (suc n)).clock kit kit
 unfolding text_with text_taken event_said
 text_taken_lem kit n l is_taken =
     let line : event_said kit n ≡ event_line (suc n) (after kit (suc n)).clock 0 = rw is_taken in

@@ -1,6 +1,5 @@
 -- The lines that are printed, as bytes. Laws: LinesLaws. Assumes nothing.
-use Rattle.std.specs.Prelude.{Bool, List, [], ◌∷◌, ◌++◌, ℕ, zero, suc, length}
-use Rattle.terms.specs.Lists.{pick}
+use Rattle.std.specs.Prelude.{Option, Some, None, List, [], ◌∷◌, ◌++◌, ℕ, zero, suc, length}
 use Rattle.terms.specs.Numbers.{condition_word}
 use Rattle.terms.specs.declared.Condition.{Condition}
 use Rattle.text.specs.Text.{decimal}
@@ -30,10 +29,14 @@ replica_name x condition = (0x72 ∷ 0x65 ∷ 0x70 ∷ 0x6c ∷ 0x69 ∷ 0x63 �
 unfoldable pub settled_line : ℕ → Condition → ℕ → List ℕ → List ℕ
 settled_line x condition mark list = replica_name x condition ++ (spaced (length list) ++ (spaced mark ++ (requests_text list ++ newline)))
 
+-- the late tick, or "none"
+abbrev pub due_text : Option ℕ → List ℕ
+due_text None = 0x20 ∷ 0x6e ∷ 0x6f ∷ 0x6e ∷ 0x65 ∷ 10 ∷ []
+due_text (Some due) = spaced due ++ newline
+
 -- "late" with the late tick, or with "none"
-unfoldable pub late_text : Bool → ℕ → List ℕ
-late_text late due =
-    (0x6c ∷ 0x61 ∷ 0x74 ∷ 0x65 ∷ []) ++ pick late (spaced due ++ newline) (0x20 ∷ 0x6e ∷ 0x6f ∷ 0x6e ∷ 0x65 ∷ 10 ∷ [])
+unfoldable pub late_text : Option ℕ → List ℕ
+late_text late = (0x6c ∷ 0x61 ∷ 0x74 ∷ 0x65 ∷ []) ++ due_text late
 
 -- "kit" and the number of a refused kit
 unfoldable pub kit_line : ℕ → List ℕ

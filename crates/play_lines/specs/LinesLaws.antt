@@ -5,6 +5,8 @@ use Rattle.std.proofs.Math.Path.{sym, ap}
 use Rattle.std.proofs.Math.Numerals.{add-one}
 use Rattle.text.specs.Text.{Put, laid, Lays}
 use Rattle.text.specs.TextLaws.{laid_append, length_after}
+use Rattle.text.specs.Page.{Puts}
+use Rattle.text.specs.declared.Page.{Page}
 use Rattle.play_lines.specs.Lines.{spaced, requests_text, lines_from}
 
 -- ---- a text that is partly put: what is still to come, put from here on, gives what the whole gives from the start
@@ -27,6 +29,18 @@ module _ {s : List ℕ} {at : ℕ} {t x : List ℕ} {r : ℕ} {u : List ℕ} (e 
   pub rest_over : u ≡ [] → Lays s at t r x
   unfolding laid
   rest_over d = record { is = sym (e.same ∙ ap (laid x r) d) }
+
+-- the same of a page: t put on page p gives what u gives put on q
+pub record Awaits (p : Page) (t : List ℕ) (q : Page) (u : List ℕ) : Type 0 where
+  pub same : q.out.ghost_name ≡ p.out.ghost_name
+  pub rest : Rest p.out.now p.at t q.out.now q.at u
+
+module _ {p : Page} {t : List ℕ} {q : Page} {u : List ℕ} (e : Awaits p t q u) where
+  pub awaits_next : {v w : List ℕ} {r : Page} → u ≡ v ++ w → Puts q v r → Awaits p t r w
+  awaits_next d n = record { same = n.same ∙ e.same; rest = rest_next e.rest d n.lays }
+
+  pub awaits_over : u ≡ [] → Puts p t q
+  awaits_over d = record { same = e.same; lays = rest_over e.rest d }
 
 -- ---- one line more
 
@@ -75,6 +89,16 @@ requests_next l i h = rw (drop-cons l i 0 h, add-one i)
 
 pub requests_over : (l : List ℕ) (i : ℕ) → length l ≤ i → requests_text (drop i l) ≡ []
 requests_over l i h = rw (drop_of_length-le l h)
+
+-- the requests of a list one after the other
+requests_from : (m i : ℕ) (l : List ℕ) → i + m ≡ length l → requests_text (drop i l) ≡ lines_from i m (λ k. spaced (get_or l k 0))
+unfolding lines_from
+requests_from zero i l e = requests_over l i (omega arith)
+requests_from (suc m) i l e =
+    requests_next l i (omega arith) ∙ rw (add-one i) (ap (λ (t : List ℕ). spaced (get_or l i 0) ++ t) (requests_from m (suc i) l (omega arith)))
+
+pub requests_each : (l : List ℕ) → lines_from 0 (length l) (λ k. spaced (get_or l k 0)) ≡ requests_text l
+requests_each l = sym (requests_from (length l) 0 l (omega arith))
 
 -- ---- lists
 

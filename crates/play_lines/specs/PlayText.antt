@@ -1,12 +1,11 @@
 -- The printed play as the rules say it: for each event its number, the clock after it and its answer; for each replica its number, its
 -- condition, its settled count, its mark and its settled requests; and the late tick. Laws: PlayTextLaws. Assumes nothing.
 use Rattle.std.specs.Prelude.{List, ◌++◌, ℕ, suc, length}
-use Rattle.terms.specs.Lists.{pick, is_some}
+use Rattle.terms.specs.Lists.{pick}
 use Rattle.terms.specs.Kit.{Kit}
 use Rattle.rules.specs.Room.{Room}
 use Rattle.rules.specs.Reading.{is_faulty, settled}
 use Rattle.rules.specs.Play.{after, answer}
-use Rattle.replica.specs.RecordLayout.{number_or0}
 use Rattle.room.specs.Said.{number_said}
 use Rattle.play_lines.specs.Lines.{event_line, settled_line, late_text, lines_from}
 
@@ -22,7 +21,7 @@ replica_said kit r x =
 
 -- the lines of the replicas and of the late tick
 unfoldable pub room_said : Kit → Room → List ℕ
-room_said kit r = lines_from 0 (length kit.table) (replica_said kit r) ++ late_text (is_some r.late) (number_or0 r.late)
+room_said kit r = lines_from 0 (length kit.table) (replica_said kit r) ++ late_text r.late
 
 -- the play of the first n events
 unfoldable pub text_after : Kit → ℕ → List ℕ

@@ -4,16 +4,16 @@ use Rattle.std.specs.Prelude.{◌≡◌, refl, Bool, true, false, List, ℕ, ◌
 use Rattle.std.proofs.Common.{arith}
 use Rattle.std.proofs.Math.ListN.{length}
 use Rattle.terms.specs.Limits.{events_max, replicas_max}
-use Rattle.terms.specs.Lent.{Clocks, Answers}
 use Rattle.terms.specs.Lists.{pick}
 use Rattle.terms.specs.Kit.{Kit}
 use Rattle.rules.specs.Room.{Room, fresh_replica}
 use Rattle.rules.specs.Room as Rules
 use Rattle.rules.specs.Reading.{is_faulty}
 use Rattle.rules.specs.Play.{after}
-use Rattle.ledger.specs.LedgerLayout.{lay_issued}
+use Rattle.ledger.specs.LedgerLayout.{lay_book}
 use Rattle.replica.specs.RecordLayout.{lay_replica}
-use Rattle.room.specs.Layout.{Parts, lay_roles, lay_table, lay_heads, lay_lists, lay_desk, lay_replicas, lay_room}
+use Rattle.room.specs.Layout.{Parts, lay_roles, lay_histories, lay_desk, lay_replicas, lay_room}
+use Rattle.room.specs.declared.Log.{Log}
 use Rattle.room.specs.LayoutLaws.{replica_laid}
 use Rattle.room.specs.Bounds.{Bounds}
 use Rattle.room.specs.GoodLaws.{size_max}
@@ -41,14 +41,13 @@ condition_said p = refl
 
 module _ (kit : Kit) (r : Room) (b : Bounds kit r) where
   replica_said_lem : (x : ℕ) → x < replicas_max
-      → replica_line kit.leader (lay_table kit) (lay_heads r.histories) (lay_lists r.histories) (lay_issued r.counter) x (lay_replica (r.replica x))
+      → replica_line (lay_roles kit) (lay_histories r.histories) (lay_book r.counter) x (lay_replica (r.replica x))
       ≡ replica_said kit r x
   unfolding replica_line replica_said
   replica_said_lem x below = rw (settled_shown_lem kit r b x below, mark_said (r.replica x), condition_said (r.replica x))
 
   pub replicas_said
-      : replica_lines (lay_replicas r.replica) (lay_roles kit) (lay_table kit) (lay_heads r.histories) (lay_lists r.histories)
-      (lay_issued r.counter)
+      : replica_lines (lay_replicas r.replica) (lay_roles kit) (lay_histories r.histories) (lay_book r.counter)
       ≡ lines_from 0 (length kit.table) (replica_said kit r)
   unfolding replica_lines lay_roles
   replicas_said =
@@ -57,21 +56,20 @@ module _ (kit : Kit) (r : Room) (b : Bounds kit r) where
       (lines_ext (length kit.table) 0 _ _
       (λ x h. let below : x < replicas_max = omega (arith, h, (size_max b.good)) in rw (replica_laid r.replica x _ below) (replica_said_lem x below)))
 
-pub events_said : (kit : Kit) (n : ℕ) → n ≤ events_max → (clocks : Clocks) (answers : Answers) → Says kit n clocks answers
-    → event_lines clocks answers n ≡ lines_from 0 n (event_said kit)
+pub events_said : (kit : Kit) (n : ℕ) → n ≤ events_max → (log : Log) → Says kit n log
+    → event_lines log n ≡ lines_from 0 n (event_said kit)
 unfolding event_lines event_said
-events_said kit n small clocks answers s =
+events_said kit n small log s =
     let m : min n events_max ≡ n = omega (arith, small) in
     rw m
     (lines_ext n 0 _ _
     (λ k h. let below : k < n = omega (arith, h) in rw (s.clock k below, s.answer k below)))
 
 -- the lines of a kit's play, from the parts that the player keeps
-abbrev pub parts_lines : Kit → ℕ → Clocks → Answers → Parts → List ℕ
-parts_lines kit n clocks answers p =
-    lines_of_play clocks answers n p.desk p.replicas (lay_roles kit) (lay_table kit) p.heads p.lists p.issued
+abbrev pub parts_lines : Kit → ℕ → Log → Parts → List ℕ
+parts_lines kit n log p = lines_of_play log n p.desk p.replicas (lay_roles kit) p.histories p.book
 
-pub play_said : (kit : Kit) (n : ℕ) → n ≤ events_max → Bounds kit (after kit n) → (clocks : Clocks) (answers : Answers) → Says kit n clocks answers
-    → (known : ℕ) → parts_lines kit n clocks answers (lay_room (after kit n) known) ≡ text_after kit n
+pub play_said : (kit : Kit) (n : ℕ) → n ≤ events_max → Bounds kit (after kit n) → (log : Log) → Says kit n log
+    → (known : ℕ) → parts_lines kit n log (lay_room (after kit n) known) ≡ text_after kit n
 unfolding lines_of_play text_after room_said lay_room lay_desk
-play_said kit n small b clocks answers s known = rw (events_said kit n small clocks answers s, replicas_said kit (after kit n) b)
+play_said kit n small b log s known = rw (events_said kit n small log s, replicas_said kit (after kit n) b)

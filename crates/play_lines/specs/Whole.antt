@@ -6,6 +6,8 @@ use Rattle.std.proofs.lemmas.List.Edits.{sets, sets-eq}
 use Rattle.std.proofs.Math.Seq.{take-append_seam}
 use Rattle.terms.specs.ListLaws.{pick_elim}
 use Rattle.text.specs.Text.{Put, put, put_byte, laid, Lays}
+use Rattle.text.specs.Page.{Puts}
+use Rattle.text.specs.declared.Page.{Page}
 use Rattle.text.specs.TextLaws.{length_laid, length_after}
 
 -- n counts bytes at the start of a buffer. The second part follows from the first: whoever takes these bytes needs both
@@ -60,6 +62,10 @@ module _ {s x : List ℕ} {at r : ℕ} {t : List ℕ} (e : Lays s at t r x) wher
 -- a promise of this form leaves one place and one buffer
 pub one_text : {s x y : List ℕ} {at r q : ℕ} {t : List ℕ} → Lays s at t r x → Lays s at t q y → put r x ≡ put q y
 one_text e d = e.is ∙ sym d.is
+
+-- and so does one on a page
+pub one_page : {p q r : Page} {t : List ℕ} → Puts p t q → Puts p t r → put q.at q.out.now ≡ put r.at r.out.now
+one_page e d = one_text e.lays d.lays
 
 -- what was put from the buffer's start on is the text
 pub whole_text : {s x : List ℕ} {r : ℕ} {t : List ℕ} → Lays s 0 t r x → r < length s → take r x ≡ t

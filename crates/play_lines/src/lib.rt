@@ -1,215 +1,239 @@
 // The printed play: one line for each event, one for each replica, and the late tick; and the line of a refused kit. What no longer fits
-// into the lent buffer is left out, and the place that is given back is then the buffer's end: a text that ends before it is whole.
+// into the lent buffer is left out, and the page's place is then the buffer's end: a text that ends before it is whole.
 #![tactic(auto)]
 
-ghost use Rattle.std.specs.Prelude.{take};
+ghost use Rattle.std.specs.Prelude.{◌≡◌, List, ℕ, ◌<◌, length, get_or, min};
+ghost use Rattle.terms.specs.Limits.{events_max, replicas_max};
 ghost use Rattle.terms.specs.Numbers.{condition_word};
-ghost use Rattle.text.specs.Text.{Lays};
-ghost use Rattle.play_lines.specs.Lines.{spaced, requests_text, event_line, replica_name, settled_line, late_text, kit_line};
-ghost use Rattle.play_lines.specs.PlayLines.{replica_line, replica_lines, event_lines, lines_of_play};
+ghost use Rattle.text.specs.Page.{Puts};
+ghost use Rattle.play_lines.specs.Lines.{lines_from, spaced, event_line, replica_name, settled_line, late_text, kit_line};
+ghost use Rattle.play_lines.specs.PlayLines.{event_at, replica_at, lines_of_play};
 
-use ledger::Issued;
-use replica::{Replica, Replicas};
-use room::{Desk, Roles};
-use terms::{Answers, Clocks, Condition, EVENTS, Heads, Lists, REPLICAS, Table};
+use ledger::Book;
+use replica::Replicas;
+use room::{Log, Played};
+use terms::{Condition, EVENTS, Histories, REPLICAS, Roles};
+use text::Page;
 
 // A number after a space.
-pub fn put_next(out: &mut [u8], at: usize, n: u64) -> usize
-    ensures { Lays out.old at (spaced n) result out.new }
+pub fn put_next(page: &mut Page, n: u64)
+    ensures { Puts page.old (spaced n) page.new }
 {
-    let a = text::put_byte(out, at, 32);
-    text::put_decimal(out, a, n)
+    page.put_byte(b' ');
+    page.put_decimal(n);
 }
 
 // The line of a refused kit.
-pub fn put_kit(out: &mut [u8], at: usize, number: u32) -> usize
-    ensures { Lays out.old at (kit_line number) result out.new }
+pub fn put_kit(page: &mut Page, number: u32)
+    ensures { Puts page.old (kit_line number) page.new }
 {
-    let a = text::put_word(out, at, b"kit");
-    let b = put_next(out, a, terms::wide(number));
-    text::put_byte(out, b, 10)
+    page.put_word(b"kit");
+    put_next(page, u64::from(number));
+    page.put_byte(b'\n');
+}
+
+// ---- one after the other
+
+// Pieces of a text, such as lines, that are put one after the other: one for each of so many things.
+pub trait Pieces {
+    ghost many: { Self → ℕ };
+
+    ghost piece: { Self → ℕ → List ℕ };
+
+    // How many there are.
+    fn many(&self) -> usize
+        ensures { result ≡ many self.now };
+
+    // The piece of thing i.
+    fn put(&self, page: &mut Page, i: usize)
+        requires { i < many self.now }
+        ensures { Puts page.old (piece self.now i) page.new };
+}
+
+// All pieces, in their order.
+pub fn put_all<P: Pieces>(page: &mut Page, pieces: &P)
+    ensures { Puts page.old (lines_from 0 (P.many pieces.now) (P.piece pieces.now)) page.new }
+{
+    for i in 0..pieces.many() {
+        pieces.put(page, i);
+    }
 }
 
 // ---- events
 
 // The line of an event: its number, the clock, the answer.
-fn put_event(out: &mut [u8], at: usize, number: u64, clock: u64, answer: u64) -> usize
-    ensures { Lays out.old at (event_line number clock answer) result out.new }
+fn put_event(page: &mut Page, number: u64, clock: u64, answer: u64)
+    ensures { Puts page.old (event_line number clock answer) page.new }
 {
-    let a = text::put_decimal(out, at, number);
-    let b = put_next(out, a, clock);
-    let c = put_next(out, b, answer);
-    text::put_byte(out, c, 10)
+    page.put_decimal(number);
+    put_next(page, clock);
+    put_next(page, answer);
+    page.put_byte(b'\n');
 }
 
 // The lines of the first n events, of 4,096 at the most.
-fn put_events(out: &mut [u8], at: usize, clocks: &Clocks, answers: &Answers, n: usize) -> usize
-    ensures { Lays out.old at (event_lines clocks.now answers.now n) result out.new }
-{
-    let count = terms::lesser(n, EVENTS);
-    let mut place = at;
-    let mut k: usize = 0;
-    while k < count {
-        place = put_event(
-            out,
-            place,
-            terms::long(k + 1),
-            clocks[k],
-            terms::wide(answers[k]),
-        );
-        k = k + 1;
+#[derive(Clone, Copy)]
+struct Events<'a> {
+    log: &'a Log,
+    n: usize,
+}
+
+impl<'a> Pieces for Events<'a> {
+    ghost many = { λ e. min e.n events_max };
+
+    ghost piece = { λ e. event_at e.log.now };
+
+    fn many(&self) -> usize {
+        self.n.min(EVENTS)
     }
-    place
+
+    fn put(&self, page: &mut Page, i: usize) {
+        let answer = u64::from(self.log.answers[i]);
+        put_event(page, (i + 1) as u64, self.log.clocks[i], answer);
+    }
 }
 
 // ---- replicas
 
 // A condition's word.
-fn put_condition(out: &mut [u8], at: usize, condition: Condition) -> usize
-    ensures { Lays out.old at (condition_word condition) result out.new }
+fn put_condition(page: &mut Page, condition: Condition)
+    ensures { Puts page.old (condition_word condition) page.new }
 {
     match condition {
-        Condition::Running => text::put_word(out, at, b"running"),
-        Condition::Halted => text::put_word(out, at, b"halted"),
-        Condition::Closed => text::put_word(out, at, b"closed"),
-        Condition::Faulty => text::put_word(out, at, b"faulty"),
+        Condition::Running => page.put_word(b"running"),
+        Condition::Halted => page.put_word(b"halted"),
+        Condition::Closed => page.put_word(b"closed"),
+        Condition::Faulty => page.put_word(b"faulty"),
     }
 }
 
 // The requests of a list, each after a space.
-fn put_requests(out: &mut [u8], at: usize, list: &[u32]) -> usize
-    ensures { Lays out.old at (requests_text list.now) result out.new }
-{
-    let mut place = at;
-    let mut i: usize = 0;
-    while i < list.len() {
-        place = put_next(out, place, terms::wide(list[i]));
-        i = i + 1;
+#[derive(Clone, Copy)]
+struct Spaced<'a> {
+    list: &'a [u32],
+}
+
+impl<'a> Pieces for Spaced<'a> {
+    ghost many = { λ s. length s.list.now };
+
+    ghost piece = { λ s i. spaced (get_or s.list.now i 0) };
+
+    fn many(&self) -> usize {
+        self.list.len()
     }
-    place
+
+    fn put(&self, page: &mut Page, i: usize) {
+        put_next(page, u64::from(self.list[i]));
+    }
 }
 
 // A replica's number and condition.
-pub fn put_name(out: &mut [u8], at: usize, x: usize, condition: Condition) -> usize
-    ensures { Lays out.old at (replica_name x condition) result out.new }
+pub fn put_name(page: &mut Page, x: usize, condition: Condition)
+    ensures { Puts page.old (replica_name x condition) page.new }
 {
-    let a = text::put_word(out, at, b"replica");
-    let b = put_next(out, a, terms::long(x));
-    let c = text::put_byte(out, b, 32);
-    put_condition(out, c, condition)
+    page.put_word(b"replica");
+    put_next(page, x as u64);
+    page.put_word(b" ");
+    put_condition(page, condition);
 }
 
 // The line of a replica that has settled a list: number, condition, settled count, mark, settled requests.
-fn put_settled(
-    out: &mut [u8],
-    at: usize,
-    x: usize,
-    condition: Condition,
-    mark: u32,
-    list: &[u32],
-) -> usize
-    ensures { Lays out.old at (settled_line x condition mark list.now) result out.new }
+fn put_settled(page: &mut Page, x: usize, condition: Condition, mark: u32, list: &[u32])
+    ensures { Puts page.old (settled_line x condition mark list.now) page.new }
 {
-    let a = put_name(out, at, x, condition);
-    let b = put_next(out, a, terms::long(list.len()));
-    let c = put_next(out, b, terms::wide(mark));
-    let d = put_requests(out, c, list);
-    text::put_byte(out, d, 10)
+    put_name(page, x, condition);
+    put_next(page, list.len() as u64);
+    put_next(page, u64::from(mark));
+    put_all(page, &Spaced { list });
+    page.put_byte(b'\n');
 }
 
-// The line of a replica that has settled the first n of a list, or all where there are fewer.
-fn put_first(
-    out: &mut [u8],
-    at: usize,
-    x: usize,
-    condition: Condition,
-    mark: u32,
-    list: &[u32],
-    n: usize,
-) -> usize
-    ensures { Lays out.old at (settled_line x condition mark (take n list.now)) result out.new }
-{
-    let m = terms::lesser(n, list.len());
-    put_settled(out, at, x, condition, mark, &list[..m])
-}
-
-// The line of a replica from its record. A faulty one has settled nothing, and its mark is shown as 0.
+// The line of replica x from its record. A faulty one has settled nothing, and its mark is shown as 0.
 fn put_replica(
-    out: &mut [u8],
-    at: usize,
+    page: &mut Page,
     x: usize,
-    p: Replica,
-    leader: usize,
-    table: &Table,
-    heads: &Heads,
-    lists: &Lists,
-    issued: &Issued,
-) -> usize
-    ensures { Lays out.old at (replica_line leader table.now heads.now lists.now issued.now x p) result out.new }
+    replicas: &Replicas,
+    roles: &Roles,
+    histories: &Histories,
+    book: &Book,
+)
+    requires { x < replicas_max }
+    ensures { Puts page.old (replica_at roles.now histories.now book.now replicas.now x) page.new }
 {
-    let condition = p.condition;
-    let shown = room::settled::shown(p);
-    let settled = room::settled::settled_of(x, p, leader, table, heads, lists, issued);
-    let requests = settled.requests;
-    put_first(out, at, x, condition, shown.mark, &requests, settled.count)
+    let p = &replicas[x];
+    let mark = room::settled::shown(*p).mark;
+    let settled = room::settled::settled_of(x, p, roles, histories, book);
+    put_settled(page, x, p.condition, mark, settled);
 }
 
 // One line for each of the kit's replicas, of seven at the most.
-fn put_replicas(
-    out: &mut [u8],
-    at: usize,
-    replicas: Replicas,
-    roles: Roles,
-    table: &Table,
-    heads: &Heads,
-    lists: &Lists,
-    issued: &Issued,
-) -> usize
-    ensures { Lays out.old at (replica_lines replicas roles table.now heads.now lists.now issued.now) result out.new }
-{
-    let leader = roles.leader;
-    let count = terms::lesser(roles.size, REPLICAS);
-    let mut place = at;
-    let mut x: usize = 0;
-    while x < count {
-        let p = replicas[x];
-        place = put_replica(out, place, x, p, leader, table, heads, lists, issued);
-        x = x + 1;
+#[derive(Clone, Copy)]
+struct Lines<'a> {
+    replicas: &'a Replicas,
+    roles: &'a Roles,
+    histories: &'a Histories,
+    book: &'a Book,
+}
+
+impl<'a> Pieces for Lines<'a> {
+    ghost many = { λ l. min l.roles.now.size replicas_max };
+
+    ghost piece = { λ l. replica_at l.roles.now l.histories.now l.book.now l.replicas.now };
+
+    fn many(&self) -> usize {
+        self.roles.size.min(REPLICAS)
     }
-    place
+
+    fn put(&self, page: &mut Page, i: usize) {
+        put_replica(
+            page,
+            i,
+            self.replicas,
+            self.roles,
+            self.histories,
+            self.book,
+        );
+    }
 }
 
 // ---- the whole
 
 // The line of the late tick, or of none.
-pub fn put_late(out: &mut [u8], at: usize, late: bool, due: u64) -> usize
-    ensures { Lays out.old at (late_text late due) result out.new }
+pub fn put_late(page: &mut Page, late: Option<u64>)
+    ensures { Puts page.old (late_text late) page.new }
 {
-    let a = text::put_word(out, at, b"late");
-    if late {
-        let b = put_next(out, a, due);
-        return text::put_byte(out, b, 10);
+    page.put_word(b"late");
+    match late {
+        Some(due) => {
+            put_next(page, due);
+            page.put_byte(b'\n');
+        }
+        None => page.put_word(b" none\n"),
     }
-    text::put_word(out, a, b" none\n")
 }
 
-// The play of the first n events, from the buffer's start: events, replicas, late tick.
+// The play of the first n events: events, replicas, late tick.
 pub fn put_play(
-    out: &mut [u8],
-    clocks: &Clocks,
-    answers: &Answers,
+    page: &mut Page,
+    log: &Log,
     n: usize,
-    desk: Desk,
-    replicas: Replicas,
-    roles: Roles,
-    table: &Table,
-    heads: &Heads,
-    lists: &Lists,
-    issued: &Issued,
-) -> usize
-    ensures { Lays out.old 0 (lines_of_play clocks.now answers.now n desk replicas roles table.now heads.now lists.now issued.now) result out.new }
+    played: &Played,
+    roles: &Roles,
+    histories: &Histories,
+    book: &Book,
+)
+    ensures { Puts page.old (lines_of_play log.now n played.now.desk played.now.replicas roles.now histories.now book.now) page.new }
 {
-    let a = put_events(out, 0, clocks, answers, n);
-    let b = put_replicas(out, a, replicas, roles, table, heads, lists, issued);
-    put_late(out, b, desk.late, desk.due)
+    let replicas = &played.replicas;
+    put_all(page, &Events { log, n });
+    put_all(
+        page,
+        &Lines {
+            replicas,
+            roles,
+            histories,
+            book,
+        },
+    );
+    put_late(page, played.desk.late);
 }

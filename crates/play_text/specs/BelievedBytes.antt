@@ -1,9 +1,8 @@
 -- A correct switch leader is believed, over bytes and what they print: a hand of the history that event 7 built, with its own two values, is printed
 -- with a 0, where it stands in an accepted kit and where it is put into one; the kit into which it is put is accepted. Places are counted from 0. Assumes
 -- nothing.
-use Rattle.std.specs.Prelude.{◌≡◌, refl, [], ◌∷◌, ℕ, suc, ◌+◌, ◌<◌}
+use Rattle.std.specs.Prelude.{◌≡◌, refl, [], ◌∷◌, ℕ, suc, ◌+◌, ◌<◌, Some}
 use Rattle.std.proofs.Common.{◌∙◌, arith}
-use Rattle.std.proofs.Math.Option.{some}
 use Rattle.terms.specs.Lists.{nth}
 use Rattle.terms.specs.ListLaws.{no_way, nth-lt}
 use Rattle.terms.specs.Kit.{Kit, GoodKit}
@@ -32,7 +31,7 @@ pub record BuiltIsBelieved (kit : Kit) : Type 0 where
   pub believed : SwitchLeaderBelieved kit
   -- a hand of the built history that stands in the kit is printed with a 0
   pub prints : (m number : ℕ) (filing : Filing) → BuiltAt kit m number filing → (n : ℕ) → m < n → (p q : ℕ) → OwnValues kit (after kit n) number p q
-      → (to : ℕ) → Receiver kit (after kit n) to → (gap : ℕ) → nth kit.events n ≡ some (handing gap p q to [])
+      → (to : ℕ) → Receiver kit (after kit n) to → (gap : ℕ) → nth kit.events n ≡ Some (handing gap p q to [])
       → printed_text (bytes_of kit) ≡ text_taken n (after kit (suc n)).clock kit kit
   -- and so is one that is put in
   pub put_in : (n number gap p q to : ℕ) → CanHandIn kit n number gap p q to → OneHandIn kit (handed_in kit n gap p q to) n number gap to

@@ -1,14 +1,13 @@
 -- The three demands on one page, over the bytes of an accepted kit, what an editor may do to it, which two of its deliveries may change places, and
 -- that a correct switch leader is believed in it. Assumes nothing.
-use Rattle.std.specs.Prelude.{◌≡◌, refl, true, ◌⊎◌, List, ℕ, suc, ◌≤◌, ◌<◌, length}
-use Rattle.std.proofs.Common.{◌∙◌, inl, inr, ne_eqb}
-use Rattle.std.proofs.Math.Option.{some}
+use Rattle.std.specs.Prelude.{◌≡◌, refl, true, ◌⊎◌, List, ℕ, suc, ◌≤◌, ◌<◌, length, Some, Err}
+use Rattle.std.proofs.Common.{◌∙◌, inl, inr, ne_eqb, Ok, Err}
 use Rattle.terms.specs.Lists.{nth, within}
 use Rattle.terms.specs.ListLaws.{nth_in}
 use Rattle.terms.specs.Kit.{Kit, Entry}
-use Rattle.terms.specs.Numbers.{answer_number, kit_number_of}
-use Rattle.terms.specs.declared.Answer.{Answer}
-use Rattle.terms.specs.declared.KitAnswer.TheVariants.{Accepted}
+use Rattle.terms.specs.Numbers.{answer_number, kit_number_of, Accepted}
+use Rattle.terms.specs.Numbers.{Answer, Taken}
+use Rattle.terms.specs.declared.Refusal.TheVariants as Refusal
 use Rattle.rules.specs.Clock.{tick}
 use Rattle.rules.specs.Play.{after, step, answer}
 use Rattle.rules.proofs.Laws.Growth.{after_suc}
@@ -33,26 +32,26 @@ abbrev pub EventNumber : ℕ → Type 0
 EventNumber n = (n ≡ 0) ⊎ (within 11 24 n ≡ true)
 
 pub event_number : (a : Answer) → EventNumber (answer_number a)
-event_number Answer.Taken = inl refl
-event_number Answer.AlreadySubmitted = inr refl
-event_number Answer.SubmissionsFull = inr refl
-event_number Answer.NotFaulty = inr refl
-event_number Answer.CounterFull = inr refl
-event_number Answer.NotIssued = inr refl
-event_number Answer.ReceiverFaulty = inr refl
-event_number Answer.TooLate = inr refl
-event_number Answer.TooEarly = inr refl
-event_number Answer.NotNext = inr refl
-event_number Answer.WrongRoles = inr refl
-event_number Answer.Unexpected = inr refl
-event_number Answer.NotValid = inr refl
-event_number Answer.FilesFull = inr refl
-event_number Answer.CannotBuild = inr refl
+event_number (Ok t) = inl refl
+event_number (Err Refusal.AlreadySubmitted) = inr refl
+event_number (Err Refusal.SubmissionsFull) = inr refl
+event_number (Err Refusal.NotFaulty) = inr refl
+event_number (Err Refusal.CounterFull) = inr refl
+event_number (Err Refusal.NotIssued) = inr refl
+event_number (Err Refusal.ReceiverFaulty) = inr refl
+event_number (Err Refusal.TooLate) = inr refl
+event_number (Err Refusal.TooEarly) = inr refl
+event_number (Err Refusal.NotNext) = inr refl
+event_number (Err Refusal.WrongRoles) = inr refl
+event_number (Err Refusal.Unexpected) = inr refl
+event_number (Err Refusal.NotValid) = inr refl
+event_number (Err Refusal.FilesFull) = inr refl
+event_number (Err Refusal.CannotBuild) = inr refl
 
 -- event n's answer and its number
 pub record Answered (kit : Kit) (n : ℕ) : Type 0 where
   pub said : Answer
-  pub is : answer kit n ≡ some said
+  pub is : answer kit n ≡ Some said
   pub number : EventNumber (answer_number said)
 
 pub record Demands (bytes : List ℕ) (kit : Kit) : Type 0 where
@@ -61,10 +60,10 @@ pub record Demands (bytes : List ℕ) (kit : Kit) : Type 0 where
   -- demand 1: every event is answered by number
   pub answers : (n : ℕ) → n < length kit.events → Answered kit n
   -- a refused event leaves the room as the clock left it
-  pub refused : (n : ℕ) (e : Entry) → nth kit.events n ≡ some e → ((step kit (after kit n) e).answer ≡ Answer.Taken → ⊥)
+  pub refused : (n : ℕ) (e : Entry) → nth kit.events n ≡ Some e → ((step kit (after kit n) e).answer ≡ Taken → ⊥)
       → after kit (suc n) ≡ tick kit (after kit n) e.gap
   -- that is, it changes nothing but the clock and the late tick
-  pub refused_only : (n : ℕ) (e : Entry) → nth kit.events n ≡ some e → ((step kit (after kit n) e).answer ≡ Answer.Taken → ⊥)
+  pub refused_only : (n : ℕ) (e : Entry) → nth kit.events n ≡ Some e → ((step kit (after kit n) e).answer ≡ Taken → ⊥)
       → Ticked (after kit n) e.gap (after kit (suc n))
   -- demand 2: after each event the parts, clocks and answers that `player::play` leaves are the rules'
   pub plays : (n : ℕ) → n ≤ length kit.events → PlaysAs kit n (played_from bytes (settings_in bytes) n)
@@ -80,7 +79,7 @@ pub record Demands (bytes : List ℕ) (kit : Kit) : Type 0 where
   -- the builder excepted; and where the switch leader is correct no correct replica holds another
   pub believed : BuiltIsBelieved kit
 
-refused_ticks : (kit : Kit) (n : ℕ) (e : Entry) → nth kit.events n ≡ some e → ((step kit (after kit n) e).answer ≡ Answer.Taken → ⊥)
+refused_ticks : (kit : Kit) (n : ℕ) (e : Entry) → nth kit.events n ≡ Some e → ((step kit (after kit n) e).answer ≡ Taken → ⊥)
     → after kit (suc n) ≡ tick kit (after kit n) e.gap
 refused_ticks kit n e is untaken = after_suc kit n e is ∙ refused_is_ticked kit (after kit n) e untaken
 

@@ -1,9 +1,8 @@
 -- What an editor may do to the idle time of a kit, over bytes and what they print: a kit with one idle less than an accepted one is accepted, and one
 -- with one more if it has at most 4,096 events; each is printed as the other is, but for one line and the numbers of the later events. Places are
 -- counted from 0. (That the programs take 65,536 bytes and no more is another matter: `program_text`.) Assumes nothing.
-use Rattle.std.specs.Prelude.{◌≡◌, refl, List, [], ◌∷◌, ℕ, suc, ◌+◌, ◌≤◌, ◌<◌, length}
+use Rattle.std.specs.Prelude.{◌≡◌, refl, List, [], ◌∷◌, ℕ, suc, ◌+◌, ◌≤◌, ◌<◌, length, Some}
 use Rattle.std.proofs.Common.{◌∙◌, arith}
-use Rattle.std.proofs.Math.Option.{some}
 use Rattle.terms.specs.Limits.{ticks_max, events_max}
 use Rattle.terms.specs.Lists.{nth}
 use Rattle.terms.specs.ListLaws.{no_way}
@@ -90,14 +89,14 @@ idle_more s i few =
 pub record EditorMay (kit : Kit) : Type 0 where
   -- make the idles at places n and n+1 one
   pub join
-      : (n a b : ℕ) → nth kit.events n ≡ some (idle a) → nth kit.events (suc n) ≡ some (idle b) → a + b ≤ ticks_max
+      : (n a b : ℕ) → nth kit.events n ≡ Some (idle a) → nth kit.events (suc n) ≡ Some (idle b) → a + b ≤ ticks_max
       → OneIdleApart n kit (replace n 2 (idle (a + b) ∷ []) kit)
   -- cut the idle at place n in two
   pub cut
-      : (n a b : ℕ) → nth kit.events n ≡ some (idle (a + b)) → length kit.events < events_max
+      : (n a b : ℕ) → nth kit.events n ≡ Some (idle (a + b)) → length kit.events < events_max
       → OneIdleApart n (replace n 1 (idle a ∷ idle b ∷ []) kit) kit
   -- take out the idle of 0 at place n
-  pub take_out : (n : ℕ) → nth kit.events n ≡ some (idle 0) → OneIdleApart n kit (replace n 1 [] kit)
+  pub take_out : (n : ℕ) → nth kit.events n ≡ Some (idle 0) → OneIdleApart n kit (replace n 1 [] kit)
   -- put in an idle of 0 before the event at place n, or behind the last event
   pub put_in
       : (n : ℕ) → n ≤ length kit.events → length kit.events < events_max → OneIdleApart n (replace n 0 (idle 0 ∷ []) kit) kit

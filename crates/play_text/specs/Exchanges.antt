@@ -1,9 +1,8 @@
 -- Two simultaneous deliveries exchanged, over bytes and what they print: the kit with the two exchanged is accepted, and it is printed as the other is,
 -- but that the two answers have changed places with their events; if both are the same, it is printed the same. Places are counted from 0. Assumes
 -- nothing.
-use Rattle.std.specs.Prelude.{◌≡◌, refl, true, ◌≢◌, [], ◌∷◌, ℕ, suc}
+use Rattle.std.specs.Prelude.{◌≡◌, refl, true, ◌≢◌, [], ◌∷◌, ℕ, suc, Some}
 use Rattle.std.proofs.Common.{sym, ◌∙◌}
-use Rattle.std.proofs.Math.Option.{some}
 use Rattle.terms.specs.Lists.{nth}
 use Rattle.terms.specs.Kit.{Kit, Entry, GoodKit, kit_numbers}
 use Rattle.rules.specs.Play.{after, answer}
@@ -66,7 +65,7 @@ one_exchange {n} {kit} {kit₁} s x =
 -- the gap stays in front
 abbrev pub OrderIsFree : Kit → Type 0
 OrderIsFree kit =
-    (n gap : ℕ) (a b : Delivery) → nth kit.events n ≡ some (delivery gap a) → nth kit.events (suc n) ≡ some (delivery 0 b)
+    (n gap : ℕ) (a b : Delivery) → nth kit.events n ≡ Some (delivery gap a) → nth kit.events (suc n) ≡ Some (delivery 0 b)
     → a.to ≢ b.to → is_issued (after kit n) a ≡ true → is_issued (after kit n) b ≡ true
     → OneExchange n kit (replace n 2 (delivery gap b ∷ delivery 0 a ∷ []) kit)
 

@@ -1,9 +1,9 @@
 -- The text that a kit's bytes print. Laws: PlayTheorem. Assumes nothing.
-use Rattle.std.specs.Prelude.{List, ℕ, length, ltb, eqb}
+use Rattle.std.specs.Prelude.{Err, List, ℕ, length, ltb, eqb}
 use Rattle.terms.specs.Lists.{pick}
 use Rattle.terms.specs.Limits.{bytes_max}
 use Rattle.terms.specs.Numbers.{kit_number_of}
-use Rattle.terms.specs.declared.KitAnswer.TheVariants.{TooLong}
+use Rattle.terms.specs.declared.KitRefusal.TheVariants.{TooLong}
 use Rattle.kit.specs.Reader.{check_of, settings_in}
 use Rattle.play_lines.specs.Lines.{kit_line}
 use Rattle.played.specs.declared.View.TheVariants.{Play}
@@ -17,4 +17,4 @@ printed_text bytes =
 
 -- what the program prints of its input
 unfoldable pub program_text : List ℕ → List ℕ
-program_text bytes = pick (ltb bytes_max (length bytes)) (kit_line (kit_number_of TooLong)) (printed_text bytes)
+program_text bytes = pick (ltb bytes_max (length bytes)) (kit_line (kit_number_of (Err TooLong))) (printed_text bytes)

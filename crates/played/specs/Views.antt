@@ -1,7 +1,7 @@
 -- What the first events of a kit came to, as text: the play or the room. Laws: ViewsLaws. Assumes nothing.
 use Rattle.std.specs.Prelude.{List, ℕ}
 use Rattle.terms.specs.Kit.{Kit}
-use Rattle.room.specs.declared.Roles.{Roles}
+use Rattle.terms.specs.declared.Roles.{Roles}
 use Rattle.kit.specs.declared.Settings.{Settings}
 use Rattle.player.specs.Opening.{roles_in}
 use Rattle.player.specs.Turn.{Left}
@@ -14,16 +14,14 @@ use Rattle.played.specs.declared.View.{View}
 use Rattle.played.specs.declared.View.TheVariants.{Play, Room}
 
 -- the lines of what the play of n events came to
-abbrev pub view_lines : View → Roles → List ℕ → ℕ → Left → List ℕ
-view_lines Play roles table n o =
-    lines_of_play o.clocks o.answers n o.parts.desk o.parts.replicas roles table o.parts.heads o.parts.lists o.parts.issued
-view_lines Room roles table n o =
-    lines_of_room o.answers n o.parts.desk o.parts.replicas roles table o.parts.requests o.parts.ticks o.parts.heads
-    o.parts.lists o.parts.ledger o.parts.issued
+abbrev pub view_lines : View → Roles → ℕ → Left → List ℕ
+view_lines Play roles n o = lines_of_play o.log n o.parts.desk o.parts.replicas roles o.parts.histories o.parts.book
+view_lines Room roles n o =
+    lines_of_room o.log n o.parts.desk o.parts.replicas roles o.parts.submissions o.parts.histories o.parts.book
 
 -- the first n events of a kit with these settings
 unfoldable pub view_text : View → List ℕ → Settings → ℕ → List ℕ
-view_text view bytes s n = view_lines view (roles_in s) s.table n (played_from bytes s n)
+view_text view bytes s n = view_lines view (roles_in s) n (played_from bytes s n)
 
 -- the same as the rules say it
 abbrev pub view_said : View → Kit → ℕ → List ℕ

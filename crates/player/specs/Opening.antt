@@ -8,7 +8,7 @@ use Rattle.rules.specs.Table.{actives_from, first_but}
 use Rattle.kit.specs.declared.Settings.{Settings}
 use Rattle.replica.specs.declared.Replica.{Replica}
 use Rattle.replica.specs.Record.{fresh_record}
-use Rattle.room.specs.declared.Roles.{Roles}
+use Rattle.terms.specs.declared.Roles.{Roles}
 
 -- the active replica of lowest number apart from the leader
 unfoldable pub switch_leader_of : Table → ℕ → ℕ
@@ -17,7 +17,14 @@ switch_leader_of table leader = first_but leader (actives_from table 0)
 -- what the settings say of the replicas, and the patience
 unfoldable pub roles_in : Settings → Roles
 roles_in s =
-    record { f = s.f; size = s.size; leader = s.leader; switcher = switch_leader_of s.table s.leader; patience = s.patience }
+    record {
+      f = s.f;
+      size = s.size;
+      leader = s.leader;
+      switcher = switch_leader_of s.table s.leader;
+      patience = s.patience;
+      table = s.table;
+    }
 
 -- the replicas of a table: faulty where it marks them so, and nothing noted, accepted or held
 unfoldable pub fresh_replicas : Table → List Replica

@@ -1,5 +1,5 @@
 -- The invariants of two loops, and what is cited of a turn of each. Assumes nothing.
-use Rattle.std.proofs.Common.{◌≡◌, refl, ◌∙◌, Bool, true, List, [], ◌∷◌, ℕ, zero, suc, ◌+◌, ◌≤◌, ◌<◌, min, arith, add-one, length, drop, get_or, drop-cons}
+use Rattle.std.proofs.Common.{◌≡◌, refl, ◌∙◌, Bool, true, false, List, [], ◌∷◌, ℕ, zero, suc, ◌+◌, ◌≤◌, ◌<◌, min, arith, add-one, length, drop, get_or, drop-cons}
 use Rattle.terms.specs.Limits.{replicas_max}
 use Rattle.terms.specs.Lists.{least_over, count_below}
 use Rattle.terms.specs.ListLaws.{split}
@@ -33,3 +33,6 @@ module _ {table : List ℕ} {g : ℕ → ℕ} {first c y : ℕ} (s : Lessening t
   pub next_active : y < length table → marks_active (get_or table y 0) ≡ true → Lessening table g first (min (g y) c) (y + 1)
   next_active below e =
       record { rest = s.rest ∙ rw (drop-cons table y 0 below, e, add-one y) (least_over-min (actives_from (drop (suc y) table) (suc y)) g (g y) c) }
+
+  pub next_passive : y < length table → marks_active (get_or table y 0) ≡ false → Lessening table g first c (y + 1)
+  next_passive below e = record { rest = s.rest ∙ rw (drop-cons table y 0 below, e, add-one y) refl }

@@ -1,6 +1,6 @@
 -- The record as the code keeps it, and its steps on every record. Laws: RecordLaws, where a replica of the rules is laid out in this way.
 -- Assumes nothing.
-use Rattle.std.specs.Prelude.{Bool, true, false, List, ℕ, ◌+◌, ◌*◌, ◌-◌, min, get_or, set, replicate, leb, ltb, eqb}
+use Rattle.std.specs.Prelude.{Bool, false, Some, None, List, ℕ, ◌+◌, ◌*◌, ◌-◌, min, get_or, set, replicate, leb, ltb, eqb}
 use Rattle.terms.specs.Limits.{replicas_max, up, sw, names, counters, requests_max}
 use Rattle.terms.specs.Lists.{pick, least_over, count_below}
 use Rattle.terms.specs.Kit.{marks_active}
@@ -20,95 +20,28 @@ fresh_record faulty =
       pairs = 0;
       mark = 0;
       accepted = replicate counters 0;
-      holding = false;
-      held = 0;
+      held = None;
     }
 
 -- ---- the record with some parts anew
 
 abbrev pub with_noted : Replica → List ℕ → ℕ → Replica
-with_noted p noted count =
-    record {
-      condition = p.condition;
-      noted = noted;
-      count = count;
-      marks = p.marks;
-      pairs = p.pairs;
-      mark = p.mark;
-      accepted = p.accepted;
-      holding = p.holding;
-      held = p.held;
-    }
+with_noted p noted count = record p { noted = noted; count = count }
 
 abbrev pub with_pairs : Replica → List ℕ → ℕ → Replica
-with_pairs p marks pairs =
-    record {
-      condition = p.condition;
-      noted = p.noted;
-      count = p.count;
-      marks = marks;
-      pairs = pairs;
-      mark = p.mark;
-      accepted = p.accepted;
-      holding = p.holding;
-      held = p.held;
-    }
+with_pairs p marks pairs = record p { marks = marks; pairs = pairs }
 
 abbrev pub with_accepted : Replica → List ℕ → Replica
-with_accepted p accepted =
-    record {
-      condition = p.condition;
-      noted = p.noted;
-      count = p.count;
-      marks = p.marks;
-      pairs = p.pairs;
-      mark = p.mark;
-      accepted = accepted;
-      holding = p.holding;
-      held = p.held;
-    }
+with_accepted p accepted = record p { accepted = accepted }
 
 abbrev pub with_condition : Replica → Condition → Replica
-with_condition p condition =
-    record {
-      condition = condition;
-      noted = p.noted;
-      count = p.count;
-      marks = p.marks;
-      pairs = p.pairs;
-      mark = p.mark;
-      accepted = p.accepted;
-      holding = p.holding;
-      held = p.held;
-    }
+with_condition p condition = record p { condition = condition }
 
 unfoldable pub mark_on : Replica → ℕ → Replica
-mark_on p mark =
-    record {
-      condition = p.condition;
-      noted = p.noted;
-      count = p.count;
-      marks = p.marks;
-      pairs = p.pairs;
-      mark = mark;
-      accepted = p.accepted;
-      holding = p.holding;
-      held = p.held;
-    }
+mark_on p mark = record p { mark = mark }
 
 unfoldable pub hold_on : Replica → ℕ → Replica
-hold_on p history =
-    record {
-      condition = p.condition;
-      noted = p.noted;
-      count = p.count;
-      marks = p.marks;
-      pairs = p.pairs;
-      mark = p.mark;
-      accepted = p.accepted;
-      holding = true;
-      held = history;
-    }
+hold_on p history = record p { held = Some history }
 
 -- ---- the steps
 

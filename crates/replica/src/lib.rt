@@ -2,16 +2,17 @@
 // it as it is.
 #![tactic(auto)]
 
-ghost use Rattle.std.specs.Prelude.{◌≡◌, ◌+◌, ◌<◌};
-ghost use Rattle.terms.specs.Lists.{pick};
+ghost use Rattle.std.specs.Prelude.{◌≡◌};
 ghost use Rattle.replica.specs.Record.{fresh_record, note_on, note_pair_on, accept_on, accepted_in, mark_on, halt_on, hold_on, close_on, active_in, lesser_of, least_seen, settled_in, switched_in, switches_in, mark_in};
 
 use terms::{
-    AG, Accepted, COUNTERS, Condition, Marks, NAMES, REPLICAS, REQUESTS, Requests, SW, Table, UP,
+    AG, Accepted, COUNTERS, Condition, Marks, NAMES, REPLICAS, REQUESTS, Requests, Roles, SW,
+    Table, UP,
 };
 
 // What a replica keeps. `noted` has `count` requests, `marks` the marks of `pairs` pairs, `accepted` the last accepted value of each
-// sender's three counters; `held` is the history's number where `holding`. Whatever is not in use is 0.
+// sender's three counters; `held` is the number of the history that it holds. Whatever is not in use is 0.
+// The arrays stay arrays with a count beside them: the record is of a fixed size and copied (document 01).
 #[derive(Clone, Copy)]
 pub struct Replica {
     pub condition: Condition,
@@ -21,8 +22,7 @@ pub struct Replica {
     pub pairs: usize,
     pub mark: u32,
     pub accepted: Accepted,
-    pub holding: bool,
-    pub held: u32,
+    pub held: Option<u32>,
 }
 
 // The replicas of a room, as many as a kit can have.
@@ -41,17 +41,19 @@ impl Replica {
     pub fn fresh(faulty: bool) -> Replica
         ensures { result ≡ fresh_record faulty }
     {
-        let condition = first_condition(faulty);
         Replica {
-            condition,
+            condition: if faulty {
+                Condition::Faulty
+            } else {
+                Condition::Running
+            },
             noted: [0; REQUESTS],
             count: 0,
             marks: [0; REQUESTS],
             pairs: 0,
             mark: 0,
             accepted: [0; COUNTERS],
-            holding: false,
-            held: 0,
+            held: None,
         }
     }
 
@@ -60,12 +62,10 @@ impl Replica {
     pub fn note(mut self, request: u32) -> Replica
         ensures { result ≡ note_on self request }
     {
-        let n = self.count;
-        if Replica::NOTED_MAX <= n {
-            return self;
+        if self.count < Replica::NOTED_MAX {
+            self.noted[self.count] = request;
+            self.count += 1;
         }
-        self.noted[n] = request;
-        self.count = n + 1;
         self
     }
 
@@ -74,18 +74,13 @@ impl Replica {
     pub fn note_pair(mut self, request: u32, mark: u32) -> Replica
         ensures { result ≡ note_pair_on self request mark }
     {
-        let at = self.count;
-        let pair = self.pairs;
-        if Replica::NOTED_MAX <= at {
+        if Replica::NOTED_MAX <= self.count || Replica::NOTED_MAX <= self.pairs {
             return self;
         }
-        if Replica::NOTED_MAX <= pair {
-            return self;
-        }
-        self.noted[at] = request;
-        self.count = at + 1;
-        self.marks[pair] = mark;
-        self.pairs = pair + 1;
+        self.noted[self.count] = request;
+        self.count += 1;
+        self.marks[self.pairs] = mark;
+        self.pairs += 1;
         self
     }
 
@@ -94,13 +89,9 @@ impl Replica {
     pub fn accept(mut self, sender: usize, name: usize, value: u32) -> Replica
         ensures { result ≡ accept_on self sender name value }
     {
-        if Replica::SENDERS_MAX <= sender {
-            return self;
+        if sender < Replica::SENDERS_MAX && name < Replica::NAMES_MAX {
+            self.accepted[Replica::NAMES_MAX * sender + name] = value;
         }
-        if Replica::NAMES_MAX <= name {
-            return self;
-        }
-        self.accepted[Replica::NAMES_MAX * sender + name] = value;
         self
     }
 
@@ -115,31 +106,14 @@ impl Replica {
 
     // A running replica halts; any other stays as it is.
     #[tactic(auto, unfolding(crate::specs::Record::halt_on))]
-    pub fn halt(self) -> Replica
+    pub fn halt(mut self) -> Replica
         ensures { result ≡ halt_on self }
     {
-        let condition = self.condition;
-        match condition {
-            Condition::Running => {
-                let noted = self.noted;
-                let marks = self.marks;
-                let accepted = self.accepted;
-                Replica {
-                    condition: Condition::Halted,
-                    noted,
-                    count: self.count,
-                    marks,
-                    pairs: self.pairs,
-                    mark: self.mark,
-                    accepted,
-                    holding: self.holding,
-                    held: self.held,
-                }
-            }
-            Condition::Halted => self,
-            Condition::Closed => self,
-            Condition::Faulty => self,
+        match self.condition {
+            Condition::Running => self.condition = Condition::Halted,
+            _ => {}
         }
+        self
     }
 
     // Holds a history.
@@ -147,42 +121,106 @@ impl Replica {
     pub fn hold(mut self, history: u32) -> Replica
         ensures { result ≡ hold_on self history }
     {
-        self.holding = true;
-        self.held = history;
+        self.held = Some(history);
         self
     }
 
     // Closes, with the mark of the list that it has settled.
     #[tactic(auto, unfolding(crate::specs::Record::close_on, crate::specs::Record::mark_on))]
-    pub fn close(self, mark: u32) -> Replica
+    pub fn close(mut self, mark: u32) -> Replica
         ensures { result ≡ close_on self mark }
     {
-        let noted = self.noted;
-        let marks = self.marks;
-        let accepted = self.accepted;
-        Replica {
-            condition: Condition::Closed,
-            noted,
-            count: self.count,
-            marks,
-            pairs: self.pairs,
-            mark,
-            accepted,
-            holding: self.holding,
-            held: self.held,
+        self.condition = Condition::Closed;
+        self.with_mark(mark)
+    }
+
+    // The last accepted value of a sender's counter; 0 of one that is not there.
+    #[tactic(auto, unfolding(crate::specs::Record::accepted_in))]
+    pub fn accepted_of(&self, sender: usize, name: usize) -> u32
+        ensures { result ≡ accepted_in self.now.accepted sender name }
+    {
+        if sender < REPLICAS && name < NAMES {
+            self.accepted[NAMES * sender + name]
+        } else {
+            0
         }
     }
-}
 
-// Faulty replicas are marked in the table; the others run.
-#[tactic(auto, unfolding(crate::specs::Record::fresh_record))]
-fn first_condition(faulty: bool) -> Condition
-    ensures { result ≡ (fresh_record faulty).condition }
-{
-    if faulty {
-        return Condition::Faulty;
+    // The lesser of the count so far and what is seen of one more active replica y.
+    #[tactic(auto, unfolding(crate::specs::Record::lesser_of))]
+    fn lesser(&self, active: bool, me: usize, own: usize, y: usize, c: usize) -> usize
+        ensures { result ≡ lesser_of active self.now.accepted me own y c }
+    {
+        if active && y == me {
+            own.min(c)
+        } else if active {
+            (self.accepted_of(y, AG) as usize).min(c)
+        } else {
+            (self.accepted_of(y, UP) as usize).min(c)
+        }
     }
-    Condition::Running
+
+    // The least, over all active replicas and of `first`, of what replica `me` has seen of them; `own` is its own ag total.
+    #[tactic(auto, unfolding(crate::specs::Record::least_seen))]
+    fn least_seen(&self, table: &Table, active: bool, me: usize, own: usize, first: usize) -> usize
+        ensures { result ≡ least_seen table.now self.now.accepted active me own first }
+    {
+        let mut c = first;
+        for (y, entry) in table.iter().enumerate() {
+            if terms::marks_active(*entry) {
+                c = self.lesser(active, me, own, y, c);
+            }
+        }
+        c
+    }
+
+    // The settled count of replica `me` with this record and `own` values on ag.
+    #[tactic(auto, unfolding(crate::specs::Record::settled_in))]
+    pub fn settled_count(&self, roles: &Roles, me: usize, own: usize) -> usize
+        ensures { result ≡ settled_in self.now.accepted roles.now.table roles.now.leader me own }
+    {
+        let active = is_active_at(&roles.table, me);
+        let first = if active {
+            own
+        } else {
+            self.accepted_of(roles.leader, UP) as usize
+        };
+        self.least_seen(&roles.table, active, me, own, first)
+    }
+
+    // Whether a SWITCH of replica y, one of the first `size`, was accepted.
+    #[tactic(auto, unfolding(crate::specs::Record::switched_in))]
+    fn switched(&self, size: usize, y: usize) -> bool
+        ensures { result ≡ switched_in self.now.accepted size y }
+    {
+        y < size && 1 <= self.accepted_of(y, SW)
+    }
+
+    // Of how many of the first `size` replicas a SWITCH was accepted.
+    #[tactic(auto, unfolding(crate::specs::Record::switches_in))]
+    pub fn switches(&self, size: usize) -> u32
+        ensures { result ≡ switches_in self.now.accepted size }
+    {
+        let mut n = 0;
+        for y in 0..REPLICAS {
+            if self.switched(size, y) {
+                n += 1;
+            }
+        }
+        n
+    }
+
+    // The mark of the last of c pairs, 0 before the first.
+    #[tactic(auto, unfolding(crate::specs::Record::mark_in))]
+    pub fn mark_of_pair(&self, c: usize) -> u32
+        ensures { result ≡ mark_in self.now.marks c }
+    {
+        if c == 0 || REQUESTS < c {
+            0
+        } else {
+            self.marks[c - 1]
+        }
+    }
 }
 
 // Whether the table marks replica x as active.
@@ -190,142 +228,7 @@ fn first_condition(faulty: bool) -> Condition
 pub fn is_active_at(table: &Table, x: usize) -> bool
     ensures { result ≡ active_in table.now x }
 {
-    let entries: &[u32] = table;
-    if entries.len() <= x {
-        return false;
-    }
-    terms::marks_active(entries[x])
-}
-
-// The last accepted value of a sender's counter; 0 of one that is not there.
-#[tactic(auto, unfolding(crate::specs::Record::accepted_in))]
-pub fn accepted_of(accepted: &Accepted, sender: usize, name: usize) -> u32
-    ensures { result ≡ accepted_in accepted.now sender name }
-{
-    if REPLICAS <= sender {
-        return 0;
-    }
-    if NAMES <= name {
-        return 0;
-    }
-    accepted[NAMES * sender + name]
-}
-
-// The lesser of the count so far and what is seen of one more active replica y.
-#[tactic(auto, unfolding(crate::specs::Record::lesser_of))]
-fn lesser(active: bool, accepted: &Accepted, me: usize, own: usize, y: usize, c: usize) -> usize
-    ensures { result ≡ lesser_of active accepted.now me own y c }
-{
-    if active {
-        if y == me {
-            if own < c {
-                return own;
-            }
-            return c;
-        }
-        let a = terms::index(accepted_of(accepted, y, AG));
-        if a < c {
-            return a;
-        }
-        return c;
-    }
-    let b = terms::index(accepted_of(accepted, y, UP));
-    if b < c {
-        return b;
-    }
-    c
-}
-
-// The least, over all active replicas and of `first`, of what replica `me` has seen of them; `own` is its own ag total.
-#[tactic(auto, unfolding(crate::specs::Record::least_seen))]
-fn least_seen(
-    table: &Table,
-    accepted: &Accepted,
-    active: bool,
-    me: usize,
-    own: usize,
-    first: usize,
-) -> usize
-    ensures { result ≡ least_seen table.now accepted.now active me own first }
-{
-    let entries: &[u32] = table;
-    let mut c = first;
-    let mut y: usize = 0;
-    while y < entries.len() {
-        if terms::marks_active(entries[y]) {
-            c = lesser(active, accepted, me, own, y, c);
-            y = y + 1;
-        } else {
-            y = y + 1;
-        }
-    }
-    c
-}
-
-// The settled count of replica `me` with these accepted values and `own` values on ag.
-#[tactic(auto, unfolding(crate::specs::Record::settled_in))]
-pub fn settled_count(
-    accepted: &Accepted,
-    table: &Table,
-    leader: usize,
-    me: usize,
-    own: usize,
-) -> usize
-    ensures { result ≡ settled_in accepted.now table.now leader me own }
-{
-    if is_active_at(table, me) {
-        return least_seen(table, accepted, true, me, own, own);
-    }
-    let first = terms::index(accepted_of(accepted, leader, UP));
-    least_seen(table, accepted, false, me, own, first)
-}
-
-// One more where it counts. The count stays below 2^32: at most seven are counted.
-fn counted(is: bool, n: u32) -> u32
-    requires { n < 7 }
-    ensures { result ≡ pick is (n + 1) n }
-{
-    if is {
-        return n + 1;
-    }
-    n
-}
-
-// Whether a SWITCH of replica y, one of the first `size`, was accepted.
-#[tactic(auto, unfolding(crate::specs::Record::switched_in))]
-fn switched(accepted: &Accepted, size: usize, y: usize) -> bool
-    ensures { result ≡ switched_in accepted.now size y }
-{
-    if size <= y {
-        return false;
-    }
-    1 <= accepted_of(accepted, y, SW)
-}
-
-// Of how many of the first `size` replicas a SWITCH was accepted.
-#[tactic(auto, unfolding(crate::specs::Record::switches_in))]
-pub fn switches(accepted: &Accepted, size: usize) -> u32
-    ensures { result ≡ switches_in accepted.now size }
-{
-    let mut n: u32 = 0;
-    let mut y: usize = 0;
-    while y < REPLICAS {
-        n = counted(switched(accepted, size, y), n);
-        y = y + 1;
-    }
-    n
-}
-
-// The mark of the last of c pairs, 0 before the first.
-#[tactic(auto, unfolding(crate::specs::Record::mark_in))]
-pub fn mark_of_pair(marks: &Marks, c: usize) -> u32
-    ensures { result ≡ mark_in marks.now c }
-{
-    if c == 0 {
-        return 0;
-    }
-    if REQUESTS < c {
-        return 0;
-    }
-    marks[c - 1]
+    table
+        .get(x)
+        .is_some_and(|&entry| terms::marks_active(entry))
 }

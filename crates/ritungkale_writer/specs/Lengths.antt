@@ -1,5 +1,5 @@
 -- How many numbers and bytes a kit has at the most: a count of them goes into a number of 64 bits beside the kit number. Assumes nothing.
-use Rattle.std.specs.Prelude.{◌≡◌, refl, List, [], ◌∷◌, ℕ, suc, ◌*◌, ◌≤◌, ◌<◌, ◌^◌, length, leb}
+use Rattle.std.specs.Prelude.{Ok, Err, IfOk, ◌≡◌, refl, List, [], ◌∷◌, ℕ, suc, ◌*◌, ◌≤◌, ◌<◌, ◌^◌, length, leb}
 use Rattle.std.proofs.Common.{arith, length-append}
 use Rattle.terms.specs.ListLaws.{split}
 use Rattle.terms.specs.Limits.{replicas}
@@ -9,15 +9,15 @@ use Rattle.terms.specs.declared.Content.{Content}
 use Rattle.terms.specs.declared.Content.TheVariants.{Prepare, Commit, Update, History, Switch}
 use Rattle.terms.specs.declared.Event.{Event}
 use Rattle.terms.specs.declared.Event.TheVariants.{Submit, Issue, Deliver, Hand, Panic, Idle, Build, File}
-use Rattle.terms.specs.declared.KitAnswer.{KitAnswer}
+use Rattle.terms.specs.Numbers.{KitAnswer, Accepted}
 use Rattle.number.specs.Number.{Bytes, spelling}
 use Rattle.number.proofs.NumberLaws.{spelling_length_lem}
 use Rattle.grammar.specs.Parser.{kit_answer}
 use Rattle.grammar.specs.ParserLaws.{answer_accepted, accepted_good, accepted_numbers}
 use Rattle.kit.specs.Spelling.{spellings}
 use Rattle.kit.specs.Reader.{numbers_in, check_of}
-use Rattle.kit.specs.Writer.{is_accepted, outcome_of, write_of, read_of}
-use Rattle.kit.specs.WriterLaws.{is_accepted_lem, read_spelled}
+use Rattle.kit.specs.Writer.{Outcome, outcome_of, write_of, read_of}
+use Rattle.kit.specs.WriterLaws.{read_spelled}
 
 content_few : (c : Content) → length (content_numbers c) ≡ 3
 content_few (Prepare request) = refl
@@ -57,25 +57,27 @@ spellings_few [] = omega arith
 spellings_few (n ∷ ns) =
     omega (arith, (spelling_length_lem n).1, spellings_few ns, length-append (spelling n) (spellings ns))
 
-numbers_few : (ns : List ℕ) → kit_answer ns ≡ KitAnswer.Accepted → length ns ≤ 282635
+numbers_few : (ns : List ℕ) → kit_answer ns ≡ Accepted → length ns ≤ 282635
 numbers_few ns e =
     let k = answer_accepted ns e in
     rw (accepted_numbers ns k.0 k.1) (kit_few k.0 (accepted_good ns k.0 k.1))
 
--- a count other than 0 is that of a kit
-outcome_few : (a : KitAnswer) (need room : ℕ) → (a ≡ KitAnswer.Accepted → need < 2 ^ 32) → (outcome_of a need room).count < 2 ^ 32
-outcome_few a need room few =
-    split (is_accepted a)
-    (λ t. rw t (split (leb need room) (λ u. rw u (few (is_accepted_lem a t))) (λ u. rw u (omega arith))))
-    (λ t. rw t (omega arith))
+-- what is filled in is a kit, so it is few
+abbrev pub Few : Outcome → Type 0
+Few outcome = IfOk outcome (λ count. count < 2 ^ 32)
 
-pub write_few : (numbers out : List ℕ) → (write_of numbers out).count < 2 ^ 32
+outcome_few : (a : KitAnswer) (need room : ℕ) → (a ≡ Accepted → need < 2 ^ 32) → Few (outcome_of a need room)
+outcome_few (Ok t) need room few =
+    split (leb need room) (λ u. rw u (few refl)) (λ u. rw u (tt))
+outcome_few (Err refusal) need room few = tt
+
+pub write_few : (numbers out : List ℕ) → Few (write_of numbers out)
 unfolding write_of
 write_few numbers out =
     outcome_few (kit_answer numbers) (length (spellings numbers)) (length out)
     (λ e. omega (arith, spellings_few numbers, numbers_few numbers e))
 
-pub read_few : (bytes out : List ℕ) → Bytes bytes → (read_of bytes out).count < 2 ^ 32
+pub read_few : (bytes out : List ℕ) → Bytes bytes → Few (read_of bytes out)
 unfolding read_of
 read_few bytes out are =
     outcome_few (check_of bytes) (length (numbers_in bytes).list) (length out)

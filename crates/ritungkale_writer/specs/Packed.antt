@@ -1,14 +1,14 @@
 -- What the functions for C and Rust give back in one number, and what they leave of what is lent. Assumes nothing.
-use Rattle.std.specs.Prelude.{◌≡◌, List, ℕ, ◌+◌, ◌*◌}
-use Rattle.terms.specs.Numbers.{kit_number_of}
-use Rattle.kit.specs.declared.writer.Outcome.{Outcome}
+use Rattle.std.specs.Prelude.{◌≡◌, Ok, Err, List, ℕ, ◌*◌}
+use Rattle.terms.specs.Numbers.{kit_refusal_number}
 use Rattle.kit.specs.Spelling.{spellings}
 use Rattle.kit.specs.Reader.{numbers_in}
-use Rattle.kit.specs.Writer.{write_of, read_of, filled_in}
+use Rattle.kit.specs.Writer.{Outcome, write_of, read_of, filled_in}
 
--- kit numbers are below 16, so that each of the two is found again
+-- 16 times the count, plus the kit number, of which one is 0; kit numbers are below 16, so that each of the two is found again
 abbrev pub packed : Outcome → ℕ
-packed o = 16 * o.count + kit_number_of o.answer
+packed (Ok count) = 16 * count
+packed (Err refusal) = kit_refusal_number refusal
 
 -- numbers written as bytes
 pub record PackedWrite (numbers out out' : List ℕ) (r : ℕ) : Type 0 where

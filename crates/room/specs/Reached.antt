@@ -1,8 +1,7 @@
 -- Every room that a good kit reaches is within the bounds that the layout asks for: after each event, and after each event's tick.
 -- Assumes nothing.
-use Rattle.std.specs.Prelude.{◌≡◌, ℕ}
+use Rattle.std.specs.Prelude.{◌≡◌, ℕ, Some}
 use Rattle.std.proofs.Common.{sym, ◌∙◌, arith}
-use Rattle.std.proofs.Math.Option.{some}
 use Rattle.terms.specs.Lists.{nth}
 use Rattle.terms.specs.ListLaws.{split, no_way}
 use Rattle.terms.specs.Kit.{Kit, GoodKit, Entry}
@@ -56,5 +55,5 @@ pub reached : (kit : Kit) → GoodKit kit → (n : ℕ) → Bounds kit (after ki
 reached kit good n = reached_bounds (reached_after kit good n) good
 
 -- when event n is decided: its gap has been added to the clock
-pub reached_tick : (kit : Kit) → GoodKit kit → (n : ℕ) (e : Entry) → nth kit.events n ≡ some e → Bounds kit (tick kit (after kit n) e.gap)
+pub reached_tick : (kit : Kit) → GoodKit kit → (n : ℕ) (e : Entry) → nth kit.events n ≡ Some e → Bounds kit (tick kit (after kit n) e.gap)
 reached_tick kit good n e h = reached_bounds (reached_ticked kit good n e h) good

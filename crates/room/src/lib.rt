@@ -1,10 +1,11 @@
-// What the player keeps of the room beside the replicas and the counters.
+// What the player keeps of the room beside the replicas and the counters, and what it leaves of a play.
 #![tactic(auto)]
 
 ghost use Rattle.std.specs.Prelude.{◌≡◌};
 ghost use Rattle.room.specs.Desk.{fresh_desk, counted_on};
 
-use terms::{Condition, Decision, HISTORIES, REQUESTS};
+use replica::Replicas;
+use terms::{Answers, Clocks, Decision, Deed, HISTORIES, REQUESTS};
 
 pub mod settled;
 
@@ -13,32 +14,26 @@ pub mod settled;
 #[derive(Clone, Copy)]
 pub struct Desk {
     pub clock: u64,
-    pub late: bool,
-    pub due: u64,
+    pub late: Option<u64>,
     pub known: usize,
     pub submitted: usize,
     pub histories: usize,
     pub filed: usize,
 }
 
-// What a kit's settings say of the replicas, and the patience.
-#[derive(Clone, Copy)]
-pub struct Roles {
-    pub f: u32,
-    pub size: usize,
-    pub leader: usize,
-    pub switcher: usize,
-    pub patience: u32,
+// What is said of each event: the number that it was answered by, and the clock after it. Two arrays, not one of pairs: the printed room reads
+// the answers alone.
+#[derive(Drop)]
+pub struct Log {
+    pub answers: Answers,
+    pub clocks: Clocks,
 }
 
-// The small parts of a replica's record; its arrays stand beside them.
+// What the loop itself owned when the play ended; the other parts stand in what it was lent.
 #[derive(Clone, Copy)]
-pub struct Standing {
-    pub condition: Condition,
-    pub count: usize,
-    pub pairs: usize,
-    pub holding: bool,
-    pub held: u32,
+pub struct Played {
+    pub desk: Desk,
+    pub replicas: Replicas,
 }
 
 impl Desk {
@@ -54,8 +49,7 @@ impl Desk {
     {
         Desk {
             clock: 0,
-            late: false,
-            due: 0,
+            late: None,
             known: 0,
             submitted: 0,
             histories: 0,
@@ -68,39 +62,20 @@ impl Desk {
     pub fn counted(mut self, decision: Decision) -> Desk
         ensures { result ≡ counted_on self decision }
     {
-        let n = self.submitted;
-        let h = self.histories;
-        let d = self.filed;
         match decision {
-            Decision::Submit(_) => {
-                if n < Desk::REQUESTS_MAX {
-                    self.submitted = n + 1;
-                    return self;
-                }
-                self
+            Ok(Deed::Submit(_)) if self.submitted < Desk::REQUESTS_MAX => {
+                self.submitted += 1;
             }
-            Decision::Build(_, _) => {
-                if h < Desk::HISTORIES_MAX {
-                    self.histories = h + 1;
-                    return self;
-                }
-                self
+            Ok(Deed::Build(_, _)) if self.histories < Desk::HISTORIES_MAX => {
+                self.histories += 1;
             }
-            Decision::File(_, _) => {
-                if h < Desk::HISTORIES_MAX {
-                    if d < Desk::HISTORIES_MAX {
-                        self.histories = h + 1;
-                        self.filed = d + 1;
-                        return self;
-                    }
-                    return self;
-                }
-                self
+            Ok(Deed::File(_, _))
+                if self.histories < Desk::HISTORIES_MAX && self.filed < Desk::HISTORIES_MAX => {
+                self.histories += 1;
+                self.filed += 1;
             }
-            Decision::Refuse(_) => self,
-            Decision::Issue(_, _, _) => self,
-            Decision::Act(_) => self,
-            Decision::Idle => self,
+            _ => {}
         }
+        self
     }
 }

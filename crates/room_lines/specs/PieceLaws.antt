@@ -1,7 +1,6 @@
 -- Laws of Pieces: lists from a place on, entries from one on, numbered lists as lines. Assumes nothing.
-use Rattle.std.specs.Prelude.{◌≡◌, refl, Bool, not, ◌||◌, List, [], ◌∷◌, ◌++◌, length, get_or, drop, eqb, ℕ, zero, suc, ◌+◌, ◌-◌, ◌≤◌, ◌<◌}
-use Rattle.std.proofs.Common.{arith, drop_of_length-le, drop-cons}
-use Rattle.std.proofs.Math.Option.{some}
+use Rattle.std.specs.Prelude.{◌≡◌, refl, Bool, not, ◌||◌, List, [], ◌∷◌, ◌++◌, length, get_or, drop, eqb, ℕ, zero, suc, ◌+◌, ◌-◌, ◌≤◌, ◌<◌, Some}
+use Rattle.std.proofs.Common.{sym, ap, ◌∙◌, arith, drop_of_length-le, drop-cons}
 use Rattle.std.proofs.Math.Numerals.{add-one}
 use Rattle.terms.specs.Lists.{pick, nth}
 use Rattle.text.specs.Text.{decimal}
@@ -15,6 +14,16 @@ commas_next l i h = rw (drop-cons l i 0 h, add-one i)
 
 pub commas_over : (l : List ℕ) (i : ℕ) → length l ≤ i → commas (drop i l) ≡ []
 commas_over l i h = rw (drop_of_length-le l h)
+
+-- the numbers of a list one after the other
+commas_from : (m i : ℕ) (l : List ℕ) → i + m ≡ length l → commas (drop i l) ≡ lines_from i m (λ k. (44 ∷ []) ++ decimal (get_or l k 0))
+unfolding lines_from
+commas_from zero i l e = commas_over l i (omega arith)
+commas_from (suc m) i l e =
+    commas_next l i (omega arith) ∙ rw (add-one i) (ap (λ (t : List ℕ). ((44 ∷ []) ++ decimal (get_or l i 0)) ++ t) (commas_from m (suc i) l (omega arith)))
+
+pub commas_each : (l : List ℕ) → lines_from 0 (length l) (λ k. (44 ∷ []) ++ decimal (get_or l k 0)) ≡ commas l
+commas_each l = sym (commas_from (length l) 0 l (omega arith))
 
 pub listed_none : (l : List ℕ) → length l ≡ 0 → dash ≡ listed l
 unfolding listed
@@ -50,13 +59,13 @@ entries_ext (suc m) c f g begun e =
 -- ---- numbered lists
 
 -- lines of which each is an element's: from number i on, and from the first
-lines_numbered {ℓ} : {A : Type ℓ} (l : List A) (i : ℕ) (line : ℕ → List ℕ) (text : ℕ → A → List ℕ)
-    → ((k : ℕ) (a : A) → nth l k ≡ some a → (n : ℕ) → n ≡ i + k → line n ≡ text n a) → lines_from i (length l) line ≡ numbered text i l
+lines_numbered : {A : Type 0} (l : List A) (i : ℕ) (line : ℕ → List ℕ) (text : ℕ → A → List ℕ)
+    → ((k : ℕ) (a : A) → nth l k ≡ Some a → (n : ℕ) → n ≡ i + k → line n ≡ text n a) → lines_from i (length l) line ≡ numbered text i l
 unfolding lines_from
 lines_numbered [] i line text e = refl
 lines_numbered (a ∷ l) i line text e =
     rw (e 0 a refl i (omega arith), lines_numbered l (suc i) line text (λ k b h n d. e (suc k) b h n (omega (arith, d))))
 
-pub lines_each {ℓ} : {A : Type ℓ} (l : List A) (line : ℕ → List ℕ) (text : ℕ → A → List ℕ)
-    → ((k : ℕ) (a : A) → nth l k ≡ some a → line k ≡ text k a) → lines_from 0 (length l) line ≡ numbered text 0 l
+pub lines_each : {A : Type 0} (l : List A) (line : ℕ → List ℕ) (text : ℕ → A → List ℕ)
+    → ((k : ℕ) (a : A) → nth l k ≡ Some a → line k ≡ text k a) → lines_from 0 (length l) line ≡ numbered text 0 l
 lines_each l line text e = lines_numbered l 0 line text (λ k a h n d. let z : n ≡ k = omega (arith, d) in rw z (e k a h))

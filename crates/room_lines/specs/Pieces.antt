@@ -1,5 +1,5 @@
 -- The pieces of the lines that show a room, as bytes. Laws: PieceLaws. Assumes nothing.
-use Rattle.std.specs.Prelude.{Bool, false, not, ◌||◌, List, [], ◌∷◌, ◌++◌, ℕ, zero, suc, ◌/◌, ◌%◌, length, get_or, eqb}
+use Rattle.std.specs.Prelude.{Option, Some, None, Bool, false, not, ◌||◌, List, [], ◌∷◌, ◌++◌, ℕ, zero, suc, ◌/◌, ◌%◌, length, get_or, eqb}
 use Rattle.terms.specs.Limits.{names, counters}
 use Rattle.terms.specs.Lists.{pick}
 use Rattle.terms.specs.Numbers.{content_numbers}
@@ -37,10 +37,10 @@ clock_text n clock =
     (0x65 ∷ 0x76 ∷ 0x65 ∷ 0x6e ∷ 0x74 ∷ []) ++ (spaced n ++ ((0x20 ∷ 0x63 ∷ 0x6c ∷ 0x6f ∷ 0x63 ∷ 0x6b ∷ []) ++ spaced clock))
 
 -- then "answer", and the late tick or none
-unfoldable pub event_text : ℕ → ℕ → List ℕ → Bool → ℕ → List ℕ
-event_text n clock answer late due =
+unfoldable pub event_text : ℕ → ℕ → List ℕ → Option ℕ → List ℕ
+event_text n clock answer late =
     clock_text n clock
-    ++ ((0x20 ∷ 0x61 ∷ 0x6e ∷ 0x73 ∷ 0x77 ∷ 0x65 ∷ 0x72 ∷ 0x20 ∷ []) ++ (answer ++ ((32 ∷ []) ++ late_text late due)))
+    ++ ((0x20 ∷ 0x61 ∷ 0x6e ∷ 0x73 ∷ 0x77 ∷ 0x65 ∷ 0x72 ∷ 0x20 ∷ []) ++ (answer ++ ((32 ∷ []) ++ late_text late)))
 
 -- ---- submissions
 
@@ -78,9 +78,14 @@ counter_text x name total contents =
 
 -- ---- replicas
 
+-- a number, or "-"
+abbrev pub number_text : Option ℕ → List ℕ
+number_text None = dash
+number_text (Some n) = decimal n
+
 -- "held=" and the number of the history that is held
-unfoldable pub held_text : Bool → ℕ → List ℕ
-held_text holding held = (0x20 ∷ 0x68 ∷ 0x65 ∷ 0x6c ∷ 0x64 ∷ 0x3d ∷ []) ++ pick holding (decimal held) dash
+unfoldable pub held_text : Option ℕ → List ℕ
+held_text held = (0x20 ∷ 0x68 ∷ 0x65 ∷ 0x6c ∷ 0x64 ∷ 0x3d ∷ []) ++ number_text held
 
 -- the last accepted value of entry c, which is sender c / 3 and name c % 3: nothing where it is 0, and a comma before it where others have
 -- begun the list
@@ -108,14 +113,14 @@ opening_text x condition settled mark =
     ++ (decimal settled ++ ((0x20 ∷ 0x6d ∷ 0x61 ∷ 0x72 ∷ 0x6b ∷ 0x3d ∷ []) ++ decimal mark)))
 
 -- what it keeps: "held=", "noted=", "pairmarks=", "accepted="
-unfoldable pub kept_text : Bool → ℕ → List ℕ → List ℕ → (ℕ → ℕ) → List ℕ
-kept_text holding held noted marks accepted =
-    held_text holding held
+unfoldable pub kept_text : Option ℕ → List ℕ → List ℕ → (ℕ → ℕ) → List ℕ
+kept_text held noted marks accepted =
+    held_text held
     ++ (((0x20 ∷ 0x6e ∷ 0x6f ∷ 0x74 ∷ 0x65 ∷ 0x64 ∷ 0x3d ∷ []) ++ listed noted)
     ++ (((0x20 ∷ 0x70 ∷ 0x61 ∷ 0x69 ∷ 0x72 ∷ 0x6d ∷ 0x61 ∷ 0x72 ∷ 0x6b ∷ 0x73 ∷ 0x3d ∷ []) ++ listed marks) ++ accepted_text accepted))
 
 -- the line of a replica: how it stands, what it keeps, and "list=" with the requests that it has settled
-unfoldable pub record_text : ℕ → Condition → ℕ → Bool → ℕ → List ℕ → List ℕ → (ℕ → ℕ) → List ℕ → List ℕ
-record_text x condition mark holding held noted marks accepted list =
+unfoldable pub record_text : ℕ → Condition → ℕ → Option ℕ → List ℕ → List ℕ → (ℕ → ℕ) → List ℕ → List ℕ
+record_text x condition mark held noted marks accepted list =
     opening_text x condition (length list) mark
-    ++ (kept_text holding held noted marks accepted ++ (((0x20 ∷ 0x6c ∷ 0x69 ∷ 0x73 ∷ 0x74 ∷ 0x3d ∷ []) ++ listed list) ++ newline))
+    ++ (kept_text held noted marks accepted ++ (((0x20 ∷ 0x6c ∷ 0x69 ∷ 0x73 ∷ 0x74 ∷ 0x3d ∷ []) ++ listed list) ++ newline))

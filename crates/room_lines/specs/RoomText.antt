@@ -2,13 +2,12 @@
 -- counter has issued; and each replica's record with what it has settled. Laws: RoomTextLaws, in proofs/. Assumes nothing.
 use Rattle.std.specs.Prelude.{true, List, ◌++◌, ℕ, zero, suc, ◌/◌, ◌%◌, length, get_or}
 use Rattle.terms.specs.Limits.{names, ag, up, sw}
-use Rattle.terms.specs.Lists.{pick, is_some}
+use Rattle.terms.specs.Lists.{pick}
 use Rattle.terms.specs.Kit.{Kit}
 use Rattle.text.specs.Text.{decimal}
 use Rattle.rules.specs.Room.{Room, Replica, fresh_replica}
 use Rattle.rules.specs.Reading.{is_faulty, settled}
 use Rattle.rules.specs.Play.{after, answer}
-use Rattle.replica.specs.RecordLayout.{number_or0}
 use Rattle.play_lines.specs.Lines.{lines_from}
 use Rattle.room.specs.Said.{number_said}
 use Rattle.room_lines.specs.Pieces.{dash, numbered, event_text, submission_text, submitted_text, history_text, content_text, counter_text, record_text}
@@ -40,13 +39,13 @@ record_shown p = pick (is_faulty p.condition) (fresh_replica true) p
 unfoldable pub replica_said : Kit → Room → ℕ → List ℕ
 replica_said kit r x =
     let p = record_shown (r.replica x) in
-    record_text x p.condition p.mark (is_some p.held) (number_or0 p.held) p.noted p.pair_marks
+    record_text x p.condition p.mark p.held p.noted p.pair_marks
     (λ c. p.accepted (c / names) (c % names)) (settled kit r x)
 
 -- the room after n events
 unfoldable pub text_of_room : Kit → ℕ → List ℕ
 text_of_room kit n =
     let r = after kit n in
-    event_text n r.clock (answer_said kit n) (is_some r.late) (number_or0 r.late)
+    event_text n r.clock (answer_said kit n) r.late
     ++ (submitted_said r
     ++ (histories_said r ++ (lines_from 0 (length kit.table) (counters_said r) ++ lines_from 0 (length kit.table) (replica_said kit r))))

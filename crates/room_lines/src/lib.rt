@@ -1,477 +1,453 @@
-// The room after some events as text, in a lent buffer: the event, submissions, histories, counters, replicas. What no longer fits is left
-// out, and the place that is given back is then the buffer's end: a text that ends before it is whole.
+// The room after some events as text: the event, submissions, histories, counters, replicas. What no longer fits into the lent buffer is
+// left out, and the page's place is then the buffer's end: a text that ends before it is whole.
 #![tactic(auto)]
 
-ghost use Rattle.std.specs.Prelude.{◌≡◌, true, false, not, ◌||◌, [], ◌∷◌, ◌++◌, take, drop, get_or, eqb, ◌+◌, ◌<◌};
-ghost use Rattle.terms.specs.Limits.{counters, places_max};
+ghost use Rattle.std.specs.Prelude.{◌≡◌, false, ◌<◌, [], ◌∷◌, ◌++◌, length, get_or, take, min};
+ghost use Rattle.terms.specs.Limits.{counters, places_max, requests_max, histories_max, replicas_max};
 ghost use Rattle.terms.specs.Lists.{pick};
-ghost use Rattle.text.specs.Text.{Lays};
-ghost use Rattle.room_lines.specs.Pieces.{commas, listed, clock_text, event_text, submission_text, history_text, parts_text, content_text, held_text, entry_text, entries_from, accepted_text, opening_text};
-ghost use Rattle.room_lines.specs.RoomLines.{answer_in, submissions_in, submitted_line, history_lines, choice_text, contents_in, counter_line, counters_at, counter_lines, kept_in, record_line, replica_line, replica_lines, lines_of_room};
+ghost use Rattle.text.specs.Text.{decimal};
+ghost use Rattle.text.specs.Page.{Puts};
+ghost use Rattle.room_lines.specs.Pieces.{listed, clock_text, event_text, submission_text, history_text, parts_text, content_text, held_text, entry_text, entries_from, accepted_text, opening_text};
+ghost use Rattle.room_lines.specs.RoomLines.{answer_in, submission_at, submitted_line, history_at, choice_text, content_at_place, counter_line, counters_at, kept_in, record_line, replica_at, lines_of_room};
 
-use ledger::{Issued, Ledger};
+use ledger::Book;
+use play_lines::Pieces;
 use replica::{Replica, Replicas};
-use room::{Desk, Roles};
+use room::{Desk, Log, Played};
 use terms::{
-    AG, Accepted, Answers, COUNTERS, Condition, Content, ContentChoice, EVENTS, HISTORIES, Heads,
-    Lists, NAMES, PLACES, REPLICAS, REQUESTS, Requests, SW, Table, Ticks, UP,
+    AG, Accepted, Answers, Condition, Content, EVENTS, HISTORIES, Histories, History, NAMES,
+    PLACES, REPLICAS, REQUESTS, Roles, SW, Submissions, UP,
 };
+use text::Page;
 
 // ---- lists
 
-// The numbers of a list but the first, each after a comma.
-fn put_commas(out: &mut [u8], at: usize, list: &[u32]) -> usize
-    ensures { Lays out.old at (commas (drop 1 list.now)) result out.new }
-{
-    let mut place = at;
-    let mut i: usize = 1;
-    while i < list.len() {
-        let a = text::put_byte(out, place, 44);
-        place = text::put_decimal(out, a, terms::wide(list[i]));
-        i = i + 1;
+// The numbers of a list, each after a comma.
+#[derive(Clone, Copy)]
+struct Commas<'a> {
+    list: &'a [u32],
+}
+
+impl<'a> Pieces for Commas<'a> {
+    ghost many = { λ s. length s.list.now };
+
+    ghost piece = { λ s i. (44 ∷ []) ++ decimal (get_or s.list.now i 0) };
+
+    fn many(&self) -> usize {
+        self.list.len()
     }
-    place
+
+    fn put(&self, page: &mut Page, i: usize) {
+        page.put_byte(b',');
+        page.put_decimal(u64::from(self.list[i]));
+    }
 }
 
 // The numbers of a list with commas between them, "-" for none.
-fn put_listed(out: &mut [u8], at: usize, list: &[u32]) -> usize
-    ensures { Lays out.old at (listed list.now) result out.new }
+fn put_listed(page: &mut Page, list: &[u32])
+    ensures { Puts page.old (listed list.now) page.new }
 {
-    if list.len() == 0 {
-        return text::put_byte(out, at, 45);
+    match list.split_first() {
+        None => page.put_byte(b'-'),
+        Some((first, rest)) => {
+            page.put_decimal(u64::from(*first));
+            play_lines::put_all(page, &Commas { list: rest });
+        }
     }
-    let a = text::put_decimal(out, at, terms::wide(list[0]));
-    put_commas(out, a, list)
 }
 
-// A word, and the first n numbers of a list, or all where there are fewer.
-fn put_part(out: &mut [u8], at: usize, word: &[u8], list: &[u32], n: usize) -> usize
-    ensures { Lays out.old at (word.now ++ listed (take n list.now)) result out.new }
+// A word, and the first n numbers of a list, or all where there are fewer: the arrays of a record and of a history are of fixed size, and what is
+// in use is counted beside them.
+fn put_part(page: &mut Page, word: &[u8], list: &[u32], n: usize)
+    ensures { Puts page.old (word.now ++ listed (take n list.now)) page.new }
 {
-    let m = terms::lesser(n, list.len());
-    let a = text::put_word(out, at, word);
-    put_listed(out, a, &list[..m])
+    page.put_word(word);
+    put_listed(page, &list[..n.min(list.len())]);
 }
 
 // ---- the event
 
 // The answer to event n, counted from 1; "-" where there is none.
-fn put_answer(out: &mut [u8], at: usize, answers: &Answers, n: usize) -> usize
-    ensures { Lays out.old at (answer_in answers.now n) result out.new }
+fn put_answer(page: &mut Page, answers: &Answers, n: usize)
+    ensures { Puts page.old (answer_in answers.now n) page.new }
 {
-    if n == 0 {
-        return text::put_byte(out, at, 45);
+    if 1 <= n && n <= EVENTS {
+        page.put_decimal(u64::from(answers[n - 1]));
+    } else {
+        page.put_byte(b'-');
     }
-    if EVENTS < n {
-        return text::put_byte(out, at, 45);
-    }
-    text::put_decimal(out, at, terms::wide(answers[n - 1]))
 }
 
 // The number of an event, and the clock after it.
-fn put_clock(out: &mut [u8], at: usize, n: usize, clock: u64) -> usize
-    ensures { Lays out.old at (clock_text n clock) result out.new }
+fn put_clock(page: &mut Page, n: usize, clock: u64)
+    ensures { Puts page.old (clock_text n clock) page.new }
 {
-    let a = text::put_word(out, at, b"event");
-    let b = play_lines::put_next(out, a, terms::long(n));
-    let c = text::put_word(out, b, b" clock");
-    play_lines::put_next(out, c, clock)
+    page.put_word(b"event");
+    play_lines::put_next(page, n as u64);
+    page.put_word(b" clock");
+    play_lines::put_next(page, clock);
 }
 
 // The line of the last event: its number, the clock, its answer, the late tick.
-fn put_event(
-    out: &mut [u8],
-    at: usize,
-    answers: &Answers,
-    n: usize,
-    clock: u64,
-    late: bool,
-    due: u64,
-) -> usize
-    ensures { Lays out.old at (event_text n clock (answer_in answers.now n) late due) result out.new }
+fn put_event(page: &mut Page, answers: &Answers, n: usize, desk: &Desk)
+    ensures { Puts page.old (event_text n desk.now.clock (answer_in answers.now n) desk.now.late) page.new }
 {
-    let a = put_clock(out, at, n, clock);
-    let b = text::put_word(out, a, b" answer ");
-    let c = put_answer(out, b, answers, n);
-    let d = text::put_byte(out, c, 32);
-    play_lines::put_late(out, d, late, due)
+    put_clock(page, n, desk.clock);
+    page.put_word(b" answer ");
+    put_answer(page, answers, n);
+    page.put_byte(b' ');
+    play_lines::put_late(page, desk.late);
 }
 
 // ---- submissions
 
 // A request, "@", its tick.
-fn put_submission(out: &mut [u8], at: usize, request: u64, tick: u64) -> usize
-    ensures { Lays out.old at (submission_text request tick) result out.new }
+fn put_submission(page: &mut Page, request: u32, tick: u64)
+    ensures { Puts page.old (submission_text request tick) page.new }
 {
-    let a = play_lines::put_next(out, at, request);
-    let b = text::put_byte(out, a, 64);
-    text::put_decimal(out, b, tick)
+    play_lines::put_next(page, u64::from(request));
+    page.put_byte(b'@');
+    page.put_decimal(tick);
 }
 
 // The first n submissions, of 64 at the most.
-fn put_submissions(out: &mut [u8], at: usize, requests: &Requests, ticks: &Ticks, n: usize) -> usize
-    ensures { Lays out.old at (submissions_in requests.now ticks.now n) result out.new }
-{
-    let count = terms::lesser(n, REQUESTS);
-    let mut place = at;
-    let mut i: usize = 0;
-    while i < count {
-        place = put_submission(out, place, terms::wide(requests[i]), ticks[i]);
-        i = i + 1;
+#[derive(Clone, Copy)]
+struct First<'a> {
+    submissions: &'a Submissions,
+    n: usize,
+}
+
+impl<'a> Pieces for First<'a> {
+    ghost many = { λ s. min s.n requests_max };
+
+    ghost piece = { λ s. submission_at s.submissions.now };
+
+    fn many(&self) -> usize {
+        self.n.min(REQUESTS)
     }
-    place
+
+    fn put(&self, page: &mut Page, i: usize) {
+        let request = self.submissions.requests[i];
+        put_submission(page, request, self.submissions.ticks[i]);
+    }
 }
 
 // The line of the submissions.
-fn put_submitted(out: &mut [u8], at: usize, requests: &Requests, ticks: &Ticks, n: usize) -> usize
-    ensures { Lays out.old at (submitted_line requests.now ticks.now n) result out.new }
+fn put_submitted(page: &mut Page, submissions: &Submissions, n: usize)
+    ensures { Puts page.old (submitted_line submissions.now n) page.new }
 {
-    let a = text::put_word(out, at, b"submitted");
-    let b = put_submissions(out, a, requests, ticks, n);
-    text::put_byte(out, b, 10)
+    page.put_word(b"submitted");
+    play_lines::put_all(page, &First { submissions, n });
+    page.put_byte(b'\n');
 }
 
 // ---- histories
 
-// The line of history h: its number, j, k, and the first n requests of its list.
-fn put_history(
-    out: &mut [u8],
-    at: usize,
-    h: usize,
-    j: usize,
-    k: usize,
-    list: &[u32],
-    n: usize,
-) -> usize
-    ensures { Lays out.old at (history_text h j k (take n list.now)) result out.new }
+// The line of history h: its number, j, k, and the requests of its list.
+fn put_history(page: &mut Page, h: usize, history: &History)
+    ensures { Puts page.old (history_text h history.now.j history.now.k (take history.now.count history.now.list)) page.new }
 {
-    let a = text::put_word(out, at, b"history");
-    let b = play_lines::put_next(out, a, terms::long(h));
-    let c = play_lines::put_next(out, b, terms::long(j));
-    let d = play_lines::put_next(out, c, terms::long(k));
-    let e = put_part(out, d, b" ", list, n);
-    text::put_byte(out, e, 10)
+    page.put_word(b"history");
+    play_lines::put_next(page, h as u64);
+    play_lines::put_next(page, history.j as u64);
+    play_lines::put_next(page, history.k as u64);
+    put_part(page, b" ", &history.list, history.count);
+    page.put_byte(b'\n');
 }
 
 // The lines of the first n histories, of eight at the most.
-fn put_histories(out: &mut [u8], at: usize, heads: &Heads, lists: &Lists, n: usize) -> usize
-    ensures { Lays out.old at (history_lines heads.now lists.now n) result out.new }
-{
-    let count = terms::lesser(n, HISTORIES);
-    let mut place = at;
-    let mut h: usize = 0;
-    while h < count {
-        place = put_history(
-            out,
-            place,
-            h,
-            heads[h][0],
-            heads[h][1],
-            &lists[h],
-            heads[h][2],
-        );
-        h = h + 1;
+#[derive(Clone, Copy)]
+struct Filed<'a> {
+    histories: &'a Histories,
+    n: usize,
+}
+
+impl<'a> Pieces for Filed<'a> {
+    ghost many = { λ f. min f.n histories_max };
+
+    ghost piece = { λ f. history_at f.histories.now };
+
+    fn many(&self) -> usize {
+        self.n.min(HISTORIES)
     }
-    place
+
+    fn put(&self, page: &mut Page, i: usize) {
+        put_history(page, i, &self.histories[i]);
+    }
 }
 
 // ---- counters
 
 // The kind, a and b of a content, with ":" between them.
-fn put_parts(out: &mut [u8], at: usize, kind: u64, a: u64, b: u64) -> usize
-    ensures { Lays out.old at (parts_text kind a b) result out.new }
+fn put_parts(page: &mut Page, kind: u64, a: u64, b: u64)
+    ensures { Puts page.old (parts_text kind a b) page.new }
 {
-    let c = play_lines::put_next(out, at, kind);
-    let d = text::put_byte(out, c, 58);
-    let e = text::put_decimal(out, d, a);
-    let f = text::put_byte(out, e, 58);
-    text::put_decimal(out, f, b)
+    play_lines::put_next(page, kind);
+    page.put_byte(b':');
+    page.put_decimal(a);
+    page.put_byte(b':');
+    page.put_decimal(b);
 }
 
 // A content.
-fn put_content(out: &mut [u8], at: usize, content: Content) -> usize
-    ensures { Lays out.old at (content_text content) result out.new }
+fn put_content(page: &mut Page, content: Content)
+    ensures { Puts page.old (content_text content) page.new }
 {
-    let p = terms::numbers_of_content(content);
-    let kind = terms::wide(p[0]);
-    let a = terms::wide(p[1]);
-    let b = terms::wide(p[2]);
-    put_parts(out, at, kind, a, b)
+    let [kind, a, b] = <[u32; 3]>::from(content);
+    put_parts(page, u64::from(kind), u64::from(a), u64::from(b));
 }
 
 // A content, or nothing.
-fn put_choice(out: &mut [u8], at: usize, choice: ContentChoice) -> usize
-    ensures { Lays out.old at (choice_text choice) result out.new }
+#[tactic(auto, using(text::specs::PageLaws::puts_none))]
+fn put_choice(page: &mut Page, choice: Option<Content>)
+    ensures { Puts page.old (choice_text choice) page.new }
 {
-    match choice {
-        ContentChoice::Content(content) => put_content(out, at, content),
-        ContentChoice::Refused => at,
+    if let Some(content) = choice {
+        put_content(page, content);
     }
-}
-
-// The value after the first i of a counter.
-fn value_after(i: usize) -> u32
-    requires { i < places_max }
-    ensures { result ≡ i + 1 }
-{
-    (i + 1) as u32
 }
 
 // The first n contents of a counter, of 96 at the most.
-fn put_contents(
-    out: &mut [u8],
-    at: usize,
-    ledger: &Ledger,
-    issued: &Issued,
+#[derive(Clone, Copy)]
+struct Contents<'a> {
+    book: &'a Book,
     x: usize,
     name: usize,
     n: usize,
-) -> usize
-    ensures { Lays out.old at (contents_in ledger.now issued.now x name n) result out.new }
-{
-    let count = terms::lesser(n, PLACES);
-    let mut place = at;
-    let mut i: usize = 0;
-    while i < count {
-        let choice = ledger::look_up(ledger, issued, x, name, value_after(i));
-        place = put_choice(out, place, choice);
-        i = i + 1;
+}
+
+impl<'a> Pieces for Contents<'a> {
+    ghost many = { λ c. min c.n places_max };
+
+    ghost piece = { λ c. content_at_place c.book.now c.x c.name };
+
+    fn many(&self) -> usize {
+        self.n.min(PLACES)
     }
-    place
+
+    fn put(&self, page: &mut Page, i: usize) {
+        let value = (i + 1) as u32;
+        put_choice(page, self.book.look_up(self.x, self.name, value));
+    }
 }
 
 // The line of a counter; none where it issued nothing.
-fn put_counter(
-    out: &mut [u8],
-    at: usize,
-    ledger: &Ledger,
-    issued: &Issued,
-    x: usize,
-    name: usize,
-) -> usize
-    ensures { Lays out.old at (counter_line ledger.now issued.now x name) result out.new }
+fn put_counter(page: &mut Page, book: &Book, x: usize, name: usize)
+    ensures { Puts page.old (counter_line book.now x name) page.new }
 {
-    let n = ledger::total(issued, x, name);
+    let n = book.total(x, name);
     if n == 0 {
-        return at;
+        return;
     }
-    let a = text::put_word(out, at, b"counter");
-    let b = play_lines::put_next(out, a, terms::long(x));
-    let c = text::put_byte(out, b, 46);
-    let d = text::put_decimal(out, c, terms::long(name));
-    let e = put_contents(out, d, ledger, issued, x, name, n);
-    text::put_byte(out, e, 10)
+    page.put_word(b"counter");
+    play_lines::put_next(page, x as u64);
+    page.put_byte(b'.');
+    page.put_decimal(name as u64);
+    play_lines::put_all(page, &Contents { book, x, name, n });
+    page.put_byte(b'\n');
 }
 
 // The lines of replica x's counters.
-fn put_own(out: &mut [u8], at: usize, ledger: &Ledger, issued: &Issued, x: usize) -> usize
-    ensures { Lays out.old at (counters_at ledger.now issued.now x) result out.new }
+fn put_own(page: &mut Page, book: &Book, x: usize)
+    ensures { Puts page.old (counters_at book.now x) page.new }
 {
-    let a = put_counter(out, at, ledger, issued, x, AG);
-    let b = put_counter(out, a, ledger, issued, x, UP);
-    put_counter(out, b, ledger, issued, x, SW)
+    put_counter(page, book, x, AG);
+    put_counter(page, book, x, UP);
+    put_counter(page, book, x, SW);
 }
 
 // The lines of the counters of the first `size` replicas, of seven at the most.
-fn put_counters(out: &mut [u8], at: usize, ledger: &Ledger, issued: &Issued, size: usize) -> usize
-    ensures { Lays out.old at (counter_lines ledger.now issued.now size) result out.new }
-{
-    let count = terms::lesser(size, REPLICAS);
-    let mut place = at;
-    let mut x: usize = 0;
-    while x < count {
-        place = put_own(out, place, ledger, issued, x);
-        x = x + 1;
+#[derive(Clone, Copy)]
+struct Counters<'a> {
+    book: &'a Book,
+    size: usize,
+}
+
+impl<'a> Pieces for Counters<'a> {
+    ghost many = { λ c. min c.size replicas_max };
+
+    ghost piece = { λ c. counters_at c.book.now };
+
+    fn many(&self) -> usize {
+        self.size.min(REPLICAS)
     }
-    place
+
+    fn put(&self, page: &mut Page, i: usize) {
+        put_own(page, self.book, i);
+    }
 }
 
 // ---- replicas
 
 // The number of the history that is held, or "-".
-fn put_held(out: &mut [u8], at: usize, holding: bool, held: u32) -> usize
-    ensures { Lays out.old at (held_text holding held) result out.new }
+fn put_held(page: &mut Page, held: Option<u32>)
+    ensures { Puts page.old (held_text held) page.new }
 {
-    let a = text::put_word(out, at, b" held=");
-    if holding {
-        return text::put_decimal(out, a, terms::wide(held));
+    page.put_word(b" held=");
+    match held {
+        Some(h) => page.put_decimal(u64::from(h)),
+        None => page.put_byte(b'-'),
     }
-    text::put_byte(out, a, 45)
 }
 
 // A comma, where others have begun the list.
-fn put_between(out: &mut [u8], at: usize, begun: bool) -> usize
-    ensures { Lays out.old at (pick begun (44 ∷ []) []) result out.new }
+fn put_between(page: &mut Page, begun: bool)
+    ensures { Puts page.old (pick begun (44 ∷ []) []) page.new }
 {
     if begun {
-        return text::put_byte(out, at, 44);
+        page.put_byte(b',');
     }
-    at
 }
 
 // The last accepted value of entry c: its sender, its name, the value; nothing where that is 0.
-fn put_entry(out: &mut [u8], at: usize, begun: bool, c: usize, value: u32) -> usize
-    ensures { Lays out.old at (entry_text begun c value) result out.new }
+fn put_entry(page: &mut Page, begun: bool, c: usize, value: u32)
+    ensures { Puts page.old (entry_text begun c value) page.new }
 {
     if value == 0 {
-        return at;
+        return;
     }
-    let a = put_between(out, at, begun);
-    let b = text::put_decimal(out, a, terms::long(c / NAMES));
-    let d = text::put_byte(out, b, 46);
-    let e = text::put_decimal(out, d, terms::long(c % NAMES));
-    let f = text::put_byte(out, e, 58);
-    text::put_decimal(out, f, terms::wide(value))
-}
-
-// Whether the list has begun after an entry of this value.
-fn begins(begun: bool, value: u32) -> bool
-    ensures { result ≡ (begun || not (eqb value 0)) }
-{
-    if begun {
-        return true;
-    }
-    value != 0
+    put_between(page, begun);
+    page.put_decimal((c / NAMES) as u64);
+    page.put_byte(b'.');
+    page.put_decimal((c % NAMES) as u64);
+    page.put_byte(b':');
+    page.put_decimal(u64::from(value));
 }
 
 // The accepted values that are not 0, or "-".
-fn put_entries(out: &mut [u8], at: usize, accepted: &Accepted) -> usize
-    ensures { Lays out.old at (entries_from (λ c. get_or accepted.now c 0) false 0 counters) result out.new }
+fn put_entries(page: &mut Page, accepted: &Accepted)
+    ensures { Puts page.old (entries_from (λ c. get_or accepted.now c 0) false 0 counters) page.new }
 {
-    let mut place = at;
     let mut begun = false;
-    let mut c: usize = 0;
-    while c < COUNTERS {
-        let value = accepted[c];
-        place = put_entry(out, place, begun, c, value);
-        begun = begins(begun, value);
-        c = c + 1;
+    for (c, value) in accepted.iter().enumerate() {
+        put_entry(page, begun, c, *value);
+        begun |= *value != 0;
     }
-    if begun {
-        return place;
+    if !begun {
+        page.put_byte(b'-');
     }
-    text::put_byte(out, place, 45)
 }
 
 // A replica's number, condition, settled count and mark.
-fn put_opening(
-    out: &mut [u8],
-    at: usize,
-    x: usize,
-    condition: Condition,
-    settled: usize,
-    mark: u32,
-) -> usize
-    ensures { Lays out.old at (opening_text x condition settled mark) result out.new }
+fn put_opening(page: &mut Page, x: usize, condition: Condition, settled: usize, mark: u32)
+    ensures { Puts page.old (opening_text x condition settled mark) page.new }
 {
-    let a = play_lines::put_name(out, at, x, condition);
-    let b = text::put_word(out, a, b" settled=");
-    let c = text::put_decimal(out, b, terms::long(settled));
-    let d = text::put_word(out, c, b" mark=");
-    text::put_decimal(out, d, terms::wide(mark))
+    play_lines::put_name(page, x, condition);
+    page.put_word(b" settled=");
+    page.put_decimal(settled as u64);
+    page.put_word(b" mark=");
+    page.put_decimal(u64::from(mark));
 }
 
 // What a replica has accepted: the word and the values.
-fn put_accepted(out: &mut [u8], at: usize, accepted: &Accepted) -> usize
-    ensures { Lays out.old at (accepted_text (λ c. get_or accepted.now c 0)) result out.new }
+fn put_accepted(page: &mut Page, accepted: &Accepted)
+    ensures { Puts page.old (accepted_text (λ c. get_or accepted.now c 0)) page.new }
 {
-    let a = text::put_word(out, at, b" accepted=");
-    put_entries(out, a, accepted)
+    page.put_word(b" accepted=");
+    put_entries(page, accepted);
 }
 
 // What a replica keeps: the history held, the requests noted, the pairs' marks, the values accepted.
-fn put_kept(out: &mut [u8], at: usize, p: Replica) -> usize
-    ensures { Lays out.old at (kept_in p) result out.new }
+fn put_kept(page: &mut Page, p: &Replica)
+    ensures { Puts page.old (kept_in p.now) page.new }
 {
-    let noted = p.noted;
-    let marks = p.marks;
-    let accepted = p.accepted;
-    let a = put_held(out, at, p.holding, p.held);
-    let b = put_part(out, a, b" noted=", &noted, p.count);
-    let c = put_part(out, b, b" pairmarks=", &marks, p.pairs);
-    put_accepted(out, c, &accepted)
+    put_held(page, p.held);
+    put_part(page, b" noted=", &p.noted, p.count);
+    put_part(page, b" pairmarks=", &p.marks, p.pairs);
+    put_accepted(page, &p.accepted);
 }
 
-// The line of a replica with this record, which has settled the first n of a list, or all where there are fewer.
-fn put_record(out: &mut [u8], at: usize, x: usize, p: Replica, list: &[u32], n: usize) -> usize
-    ensures { Lays out.old at (record_line x p (take n list.now)) result out.new }
+// The line of a replica with this record, which has settled this list.
+fn put_record(page: &mut Page, x: usize, p: &Replica, list: &[u32])
+    ensures { Puts page.old (record_line x p.now list.now) page.new }
 {
-    let condition = p.condition;
-    let m = terms::lesser(n, list.len());
-    let a = put_opening(out, at, x, condition, m, p.mark);
-    let b = put_kept(out, a, p);
-    let c = put_part(out, b, b" list=", list, n);
-    text::put_byte(out, c, 10)
+    put_opening(page, x, p.condition, list.len(), p.mark);
+    put_kept(page, p);
+    page.put_word(b" list=");
+    put_listed(page, list);
+    page.put_byte(b'\n');
 }
 
-// The line of a replica: what is shown of its record, and what it has settled.
+// The line of replica x: what is shown of its record, and what it has settled.
 fn put_replica(
-    out: &mut [u8],
-    at: usize,
+    page: &mut Page,
     x: usize,
-    p: Replica,
-    leader: usize,
-    table: &Table,
-    heads: &Heads,
-    lists: &Lists,
-    issued: &Issued,
-) -> usize
-    ensures { Lays out.old at (replica_line leader table.now heads.now lists.now issued.now x p) result out.new }
+    replicas: &Replicas,
+    roles: &Roles,
+    histories: &Histories,
+    book: &Book,
+)
+    requires { x < replicas_max }
+    ensures { Puts page.old (replica_at roles.now histories.now book.now replicas.now x) page.new }
 {
-    let shown = room::settled::shown(p);
-    let settled = room::settled::settled_of(x, p, leader, table, heads, lists, issued);
-    let requests = settled.requests;
-    put_record(out, at, x, shown, &requests, settled.count)
+    let p = &replicas[x];
+    let shown = room::settled::shown(*p);
+    let settled = room::settled::settled_of(x, p, roles, histories, book);
+    put_record(page, x, &shown, settled);
 }
 
-// One line for each of the kit's replicas, of seven at the most.
-fn put_replicas(
-    out: &mut [u8],
-    at: usize,
-    replicas: Replicas,
-    roles: Roles,
-    table: &Table,
-    heads: &Heads,
-    lists: &Lists,
-    issued: &Issued,
-) -> usize
-    ensures { Lays out.old at (replica_lines replicas roles table.now heads.now lists.now issued.now) result out.new }
-{
-    let leader = roles.leader;
-    let count = terms::lesser(roles.size, REPLICAS);
-    let mut place = at;
-    let mut x: usize = 0;
-    while x < count {
-        let p = replicas[x];
-        place = put_replica(out, place, x, p, leader, table, heads, lists, issued);
-        x = x + 1;
+// One line for each of the kit's replicas, of seven at the most. As `play_lines` has it for its own line: a type for the line, a trait and two units
+// of it would be longer.
+#[derive(Clone, Copy)]
+struct Records<'a> {
+    replicas: &'a Replicas,
+    roles: &'a Roles,
+    histories: &'a Histories,
+    book: &'a Book,
+}
+
+impl<'a> Pieces for Records<'a> {
+    ghost many = { λ l. min l.roles.now.size replicas_max };
+
+    ghost piece = { λ l. replica_at l.roles.now l.histories.now l.book.now l.replicas.now };
+
+    fn many(&self) -> usize {
+        self.roles.size.min(REPLICAS)
     }
-    place
+
+    fn put(&self, page: &mut Page, i: usize) {
+        put_replica(
+            page,
+            i,
+            self.replicas,
+            self.roles,
+            self.histories,
+            self.book,
+        );
+    }
 }
 
 // ---- the whole
 
-// The room after n events, from the buffer's start: event, submissions, histories, counters, replicas.
+// The room after n events: event, submissions, histories, counters, replicas. The parts are lent one by one, as the player has them: in a struct
+// of them the loop could not lend some to be read and one to be changed.
 pub fn put_room(
-    out: &mut [u8],
-    answers: &Answers,
+    page: &mut Page,
+    log: &Log,
     n: usize,
-    desk: Desk,
-    replicas: Replicas,
-    roles: Roles,
-    table: &Table,
-    requests: &Requests,
-    ticks: &Ticks,
-    heads: &Heads,
-    lists: &Lists,
-    ledger: &Ledger,
-    issued: &Issued,
-) -> usize
-    ensures { Lays out.old 0 (lines_of_room answers.now n desk replicas roles table.now requests.now ticks.now heads.now lists.now ledger.now issued.now) result out.new }
+    played: &Played,
+    roles: &Roles,
+    submissions: &Submissions,
+    histories: &Histories,
+    book: &Book,
+)
+    ensures { Puts page.old (lines_of_room log.now n played.now.desk played.now.replicas roles.now submissions.now histories.now book.now) page.new }
 {
-    let a = put_event(out, 0, answers, n, desk.clock, desk.late, desk.due);
-    let b = put_submitted(out, a, requests, ticks, desk.submitted);
-    let c = put_histories(out, b, heads, lists, desk.histories);
-    let d = put_counters(out, c, ledger, issued, roles.size);
-    put_replicas(out, d, replicas, roles, table, heads, lists, issued)
+    let desk = &played.desk;
+    let replicas = &played.replicas;
+    let size = roles.size;
+    put_event(page, &log.answers, n, desk);
+    put_submitted(page, submissions, desk.submitted);
+    let n = desk.histories;
+    play_lines::put_all(page, &Filed { histories, n });
+    play_lines::put_all(page, &Counters { book, size });
+    play_lines::put_all(
+        page,
+        &Records {
+            replicas,
+            roles,
+            histories,
+            book,
+        },
+    );
 }

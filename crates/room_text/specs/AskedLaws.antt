@@ -1,8 +1,18 @@
 -- Laws of Asked: a word from one of its bytes on, and numbers that are cut off at a bound. Assumes nothing.
-use Rattle.std.specs.Prelude.{◌≡◌, true, ◌&&◌, List, [], ◌∷◌, ℕ, ◌+◌, ◌≤◌, ◌<◌, min, length, get_or, drop}
-use Rattle.std.proofs.Common.{sym, ap, ◌∙◌, add-one, arith, drop_of_length-le, drop-cons}
+use Rattle.std.specs.Prelude.{◌≡◌, refl, Bool, not, ◌==◌, ltb, zero, suc, true, ◌&&◌, List, [], ◌∷◌, ℕ, ◌+◌, ◌≤◌, ◌<◌, min, length, get_or, drop}
+use Rattle.std.specs.List.{list_all}
+use Rattle.std.proofs.Common.{ne_eqb, lt-ltb, sym, ap, ◌∙◌, add-one, arith, drop_of_length-le, drop-cons}
 use Rattle.terms.specs.Lists.{all_of}
 use Rattle.room_text.specs.Asked.{is_digit, with_digit, with_digits, asked_max}
+
+pub digits_all : (word : List ℕ) → list_all is_digit word ≡ all_of word is_digit
+digits_all [] = refl
+digits_all (byte ∷ word) = ap (λ (b : Bool). is_digit byte && b) (digits_all word)
+
+-- a word with some byte
+pub some_byte : (n : ℕ) → not (n == 0) ≡ ltb 0 n
+some_byte zero = refl
+some_byte (suc n) = rw (ne_eqb (suc n) 0 (λ e. omega arith), lt-ltb 0 (suc n) (omega arith))
 
 pub digits_from : (word : List ℕ) (i : ℕ) → i < length word → all_of (drop i word) is_digit ≡ (is_digit (get_or word i 0) && all_of (drop (i + 1) word) is_digit)
 digits_from word i h = rw (drop-cons word i 0 h, add-one i)

@@ -1,10 +1,10 @@
 -- The room after the first n events of a kit's bytes, as text, and what the program prints of its input and its argument. Laws:
 -- RoomTheorem. Assumes nothing.
-use Rattle.std.specs.Prelude.{Bool, List, [], ◌∷◌, ◌++◌, ℕ, length, ltb, eqb}
+use Rattle.std.specs.Prelude.{Option, Some, None, Err, List, [], ◌∷◌, ◌++◌, ℕ, length, ltb, eqb}
 use Rattle.terms.specs.Lists.{pick}
 use Rattle.terms.specs.Limits.{bytes_max}
 use Rattle.terms.specs.Numbers.{kit_number_of}
-use Rattle.terms.specs.declared.KitAnswer.TheVariants.{TooLong}
+use Rattle.terms.specs.declared.KitRefusal.TheVariants.{TooLong}
 use Rattle.kit.specs.declared.Settings.{Settings}
 use Rattle.kit.specs.Reader.{check_of, settings_in}
 use Rattle.play_lines.specs.Lines.{spaced, kit_line}
@@ -31,7 +31,7 @@ printed_room bytes n =
 -- ---- the program
 
 unfoldable pub input_room : List ℕ → ℕ → List ℕ
-input_room bytes n = pick (ltb bytes_max (length bytes)) (kit_line (kit_number_of TooLong)) (printed_room bytes n)
+input_room bytes n = pick (ltb bytes_max (length bytes)) (kit_line (kit_number_of (Err TooLong))) (printed_room bytes n)
 
 -- "the argument is not a number of events"
 abbrev pub no_number_text : List ℕ
@@ -43,5 +43,6 @@ unfoldable pub asked_room : List ℕ → List ℕ → List ℕ
 asked_room bytes word = pick (is_number word) (input_room bytes (number_asked word)) no_number_text
 
 -- with no argument, after the last event
-unfoldable pub program_room : List ℕ → Bool → List ℕ → List ℕ
-program_room bytes given word = pick given (asked_room bytes word) (input_room bytes (settings_in bytes).count)
+unfoldable pub program_room : List ℕ → Option (List ℕ) → List ℕ
+program_room bytes None = input_room bytes (settings_in bytes).count
+program_room bytes (Some word) = asked_room bytes word

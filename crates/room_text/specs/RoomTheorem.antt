@@ -1,12 +1,12 @@
 -- Demand 2 over the printed room: of bytes that spell a kit, and n at most its events, the text is the room that the rules have after n
 -- events; past the last event it says how many there are; of all other bytes it is `kit` and the number of the first fault. Assumes nothing.
-use Rattle.std.specs.Prelude.{◌≡◌, refl, false, List, ℕ, ◌≤◌, ◌<◌, min, length, eqb, ltb}
+use Rattle.std.specs.Prelude.{Ok, Err, ◌≡◌, refl, None, List, ℕ, ◌≤◌, ◌<◌, min, length, eqb, ltb}
 use Rattle.std.proofs.Common.{ap, ◌∙◌, arith, ne_eqb, eqb-true, lt-ltb, le-ltb, ltb-true, ltb-false}
 use Rattle.terms.specs.Limits.{events_max, bytes_max}
 use Rattle.terms.specs.ListLaws.{split}
 use Rattle.terms.specs.Kit.{Kit}
-use Rattle.terms.specs.Numbers.{kit_number_of}
-use Rattle.terms.specs.declared.KitAnswer.{KitAnswer}
+use Rattle.terms.specs.Numbers.{kit_number_of, KitAnswer, Accepted}
+use Rattle.terms.specs.declared.KitRefusal.TheVariants as KitRefusal
 use Rattle.number.specs.Number.{Bytes}
 use Rattle.kit.specs.Reader.{check_of, kit_of, settings_in}
 use Rattle.kit.specs.Spelling.{Spells}
@@ -34,9 +34,9 @@ module _ (bytes : List ℕ) (kit : Kit) (spells : Spells bytes kit) where
       rw (spells_accepted bytes kit spells, lt-ltb (settings_in bytes).count n (omega (arith, count_read, past))) (ap past_text count_read)
 
   -- the program with no argument
-  pub last_printed : length bytes ≤ bytes_max → (word : List ℕ) → program_room bytes false word ≡ text_of_room kit (length kit.events)
+  pub last_printed : length bytes ≤ bytes_max → program_room bytes None ≡ text_of_room kit (length kit.events)
   unfolding program_room input_room
-  last_printed small word =
+  last_printed small =
       rw (le-ltb bytes_max (length bytes) small) (ap (printed_room bytes) count_read ∙ room_printed (length kit.events) (omega arith))
 
 pub refused_room : (bytes : List ℕ) (n : ℕ) → (kit_number_of (check_of bytes) ≡ 0 → ⊥) → printed_room bytes n ≡ kit_line (kit_number_of (check_of bytes))
@@ -45,15 +45,15 @@ refused_room bytes n wrong = rw (ne_eqb (kit_number_of (check_of bytes)) 0 wrong
 
 -- ---- a great number asks for the same as any that is greater than a kit's events
 
-accepted_number : (a : KitAnswer) → kit_number_of a ≡ 0 → a ≡ KitAnswer.Accepted
-accepted_number KitAnswer.Accepted e = refl
-accepted_number KitAnswer.Cut e = absurd (omega (arith, e))
-accepted_number KitAnswer.Misspelled e = absurd (omega (arith, e))
-accepted_number KitAnswer.WrongSettings e = absurd (omega (arith, e))
-accepted_number KitAnswer.WrongEvent e = absurd (omega (arith, e))
-accepted_number KitAnswer.Excess e = absurd (omega (arith, e))
-accepted_number KitAnswer.NoRoom e = absurd (omega (arith, e))
-accepted_number KitAnswer.TooLong e = absurd (omega (arith, e))
+accepted_number : (a : KitAnswer) → kit_number_of a ≡ 0 → a ≡ Accepted
+accepted_number (Ok t) e = refl
+accepted_number (Err KitRefusal.Cut) e = absurd (omega (arith, e))
+accepted_number (Err KitRefusal.Misspelled) e = absurd (omega (arith, e))
+accepted_number (Err KitRefusal.WrongSettings) e = absurd (omega (arith, e))
+accepted_number (Err KitRefusal.WrongEvent) e = absurd (omega (arith, e))
+accepted_number (Err KitRefusal.Excess) e = absurd (omega (arith, e))
+accepted_number (Err KitRefusal.NoRoom) e = absurd (omega (arith, e))
+accepted_number (Err KitRefusal.TooLong) e = absurd (omega (arith, e))
 
 few_events : (bytes : List ℕ) → Bytes bytes → kit_number_of (check_of bytes) ≡ 0 → (settings_in bytes).count ≤ events_max
 few_events bytes are e =

@@ -3,86 +3,76 @@
 
 #![tactic(auto)]
 
-ghost use Rattle.std.specs.Prelude.{◌≡◌, ◌-◌, ◌≤◌, min};
+ghost use Rattle.std.specs.Prelude.{◌≡◌, ◌≤◌, min};
+ghost use Rattle.std.specs.List.{list_all};
+ghost use Rattle.std.specs.Option.{option_copied};
 ghost use Rattle.text.specs.Text.{Lays};
+ghost use Rattle.text.specs.Page.{Puts};
 ghost use Rattle.play_lines.specs.Whole.{Counts};
 ghost use Rattle.room_text.specs.Asked.{is_digit, is_number, with_digit, number_asked, asked_max};
 ghost use Rattle.room_text.specs.RoomPrinted.{past_text, moment_text, printed_room, input_room, asked_room, program_room};
 
 use kit::Settings;
 use played::View;
-use terms::KitAnswer;
+use terms::KitRefusal;
+use text::Page;
 
 // ---- any bytes, after so many events
 
 // The line for one who asks for more events than there are.
-fn put_past(out: &mut [u8], count: usize) -> usize
-    ensures { Lays out.old 0 (past_text count) result out.new }
+fn put_past(page: &mut Page, count: usize)
+    ensures { Puts page.old (past_text count) page.new }
 {
-    let a = text::put_word(out, 0, b"the kit has");
-    let b = play_lines::put_next(out, a, terms::long(count));
-    text::put_word(out, b, b" events\n")
+    page.put_word(b"the kit has");
+    play_lines::put_next(page, count as u64);
+    page.put_word(b" events\n");
 }
 
-// The same of an accepted kit with these settings, for any n.
-fn put_moment(bytes: &[u8], settings: Settings, n: usize, out: &mut [u8]) -> usize
-    ensures { Lays out.old 0 (moment_text bytes.now settings n) result out.new }
+// The room of an accepted kit with these settings, for any n.
+fn put_moment(page: &mut Page, bytes: &[u8], settings: &Settings, n: usize)
+    ensures { Puts page.old (moment_text bytes.now settings.now n) page.new }
 {
     let count = settings.count;
     if count < n {
-        return put_past(out, count);
+        return put_past(page, count);
     }
-    played::put_played(bytes, settings, n, View::Room, out)
+    played::put_played(page, bytes, settings, n, View::Room);
 }
 
-// The room of these bytes after n events: `kit` and its number where they are refused.
+// The room of any bytes after n events: `kit` and its number where they are refused.
+fn put_printed(page: &mut Page, bytes: &[u8], n: usize)
+    ensures { Puts page.old (printed_room bytes.now n) page.new }
+{
+    match kit::check(bytes) {
+        Ok(()) => put_moment(page, bytes, &kit::open(bytes), n),
+        Err(refusal) => play_lines::put_kit(page, u32::from(refusal)),
+    }
+}
+
+// The room of these bytes after n events, from the buffer's start.
 pub fn printed_room(bytes: &[u8], n: usize, out: &mut [u8]) -> usize
     ensures lays { Lays out.old 0 (printed_room bytes.now n) result out.new }
     ensures counts { Counts result out.new }
 {
-    let answer = kit::check(bytes);
-    let number = terms::number_of_kit(answer);
-    if number == 0 {
-        let settings = kit::open(bytes);
-        return put_moment(bytes, settings, n, out);
-    }
-    play_lines::put_kit(out, 0, number)
+    let mut page = Page { out, at: 0 };
+    put_printed(&mut page, bytes, n);
+    page.at
 }
 
 // ---- the number that is asked for
-
-// Whether a byte is a decimal digit.
-fn is_digit(byte: u8) -> bool
-    ensures { result ≡ is_digit byte }
-{
-    if byte < 48 {
-        return false;
-    }
-    byte <= 57
-}
 
 // Whether a word is digits, and at least one.
 fn is_number(word: &[u8]) -> bool
     ensures { result ≡ is_number word.now }
 {
-    let mut i: usize = 0;
-    while i < word.len() {
-        if !is_digit(word[i]) {
-            return false;
-        }
-        i = i + 1;
-    }
-    0 < word.len()
+    all_digits(word) && !word.is_empty()
 }
 
-// A digit's value.
-fn value(byte: u8) -> usize
-    ensures { result ≡ byte - 48 }
+// Whether all bytes of a word are digits.
+fn all_digits(word: &[u8]) -> bool
+    ensures { result ≡ list_all is_digit word.now }
 {
-    if byte < 48 {
-        return 0;
-    }
-    (byte - 48) as usize
+    word.iter().all(|byte| byte.is_ascii_digit())
 }
 
 // A number with one more digit, cut off at the bound.
@@ -90,22 +80,17 @@ fn with_digit(n: usize, byte: u8) -> usize
     requires { n ≤ asked_max }
     ensures { result ≡ min (with_digit n byte) asked_max }
 {
-    let m = 10 * n + value(byte);
-    if m < 65536 {
-        return m;
-    }
-    65536
+    let digit = usize::from(byte.saturating_sub(b'0'));
+    (10 * n + digit).min(65536)
 }
 
 // The number that a word of digits asks for, cut off at the bound.
 fn number_asked(word: &[u8]) -> usize
     ensures { result ≡ min (number_asked word.now) asked_max }
 {
-    let mut n: usize = 0;
-    let mut i: usize = 0;
-    while i < word.len() {
-        n = with_digit(n, word[i]);
-        i = i + 1;
+    let mut n = 0;
+    for byte in word {
+        n = with_digit(n, *byte);
     }
     n
 }
@@ -113,35 +98,44 @@ fn number_asked(word: &[u8]) -> usize
 // ---- the program
 
 // The room of the program's input after n events: more bytes than it reads are refused before anything else.
-fn input_room(bytes: &[u8], n: usize, out: &mut [u8]) -> usize
-    ensures { Lays out.old 0 (input_room bytes.now n) result out.new }
+fn put_input(page: &mut Page, bytes: &[u8], n: usize)
+    ensures { Puts page.old (input_room bytes.now n) page.new }
 {
     if play_text::BYTES_MAX < bytes.len() {
-        let number = terms::number_of_kit(KitAnswer::TooLong);
-        return play_lines::put_kit(out, 0, number);
+        return play_lines::put_kit(page, u32::from(KitRefusal::TooLong));
     }
-    printed_room(bytes, n, out)
+    put_printed(page, bytes, n);
 }
 
 // The same after as many events as a word says; one that is no number is answered in words.
-fn asked_room(bytes: &[u8], word: &[u8], out: &mut [u8]) -> usize
-    ensures { Lays out.old 0 (asked_room bytes.now word.now) result out.new }
+fn put_asked(page: &mut Page, bytes: &[u8], word: &[u8])
+    ensures { Puts page.old (asked_room bytes.now word.now) page.new }
 {
     if is_number(word) {
-        let n = number_asked(word);
-        return input_room(bytes, n, out);
+        return put_input(page, bytes, number_asked(word));
     }
-    text::put_word(out, 0, b"the argument is not a number of events\n")
+    page.put_word(b"the argument is not a number of events\n");
 }
 
-// What the program prints of its input and its argument; with none given, the room after the last event.
-pub fn room_input(bytes: &[u8], given: bool, word: &[u8], out: &mut [u8]) -> usize
-    ensures lays { Lays out.old 0 (program_room bytes.now given word.now) result out.new }
+// The same, where a word is given; else the room after the last event.
+fn put_answer(page: &mut Page, bytes: &[u8], word: Option<&[u8]>)
+    ensures { Puts page.old (program_room bytes.now (option_copied word.entry)) page.new }
+{
+    match word {
+        Some(word) => put_asked(page, bytes, word),
+        None => {
+            let settings = kit::open(bytes);
+            put_input(page, bytes, settings.count);
+        }
+    }
+}
+
+// What the program prints of its input and its argument, from the buffer's start; with none given, the room after the last event.
+pub fn room_input(bytes: &[u8], word: Option<&[u8]>, out: &mut [u8]) -> usize
+    ensures lays { Lays out.old 0 (program_room bytes.now (option_copied word.entry)) result out.new }
     ensures counts { Counts result out.new }
 {
-    if given {
-        return asked_room(bytes, word, out);
-    }
-    let settings = kit::open(bytes);
-    input_room(bytes, settings.count, out)
+    let mut page = Page { out, at: 0 };
+    put_answer(&mut page, bytes, word);
+    page.at
 }

@@ -1,11 +1,12 @@
 -- An event is decided, and what was decided is done: the whole of an event once the clock has gone on. Assumes nothing.
-use Rattle.std.specs.Prelude.{List, ℕ, length}
+use Rattle.std.specs.Prelude.{List, ℕ, length, Ok, Err}
 use Rattle.terms.specs.Limits.{ag, up, sw}
 use Rattle.terms.specs.Lists.{nth, holds}
 use Rattle.terms.specs.Kit.{Kit}
 use Rattle.terms.specs.declared.Event.{Event}
 use Rattle.terms.specs.declared.Act.{Act}
-use Rattle.terms.specs.declared.Decision.{Decision}
+use Rattle.terms.specs.Numbers.{Decision}
+use Rattle.terms.specs.declared.Deed.{Deed}
 use Rattle.rules.specs.Table.{is_active, switch_leader}
 use Rattle.rules.specs.Room.{Room, issue, note_pair, accept}
 use Rattle.rules.specs.Reading.{content_at}
@@ -36,7 +37,7 @@ decide kit r (Event.Hand p q to) =
       valid = λ h. is_valid_filing kit r p q h (nth r.histories h);
     })
 decide kit r (Event.Panic to) = decide_panic (r.replica to).condition
-decide kit r Event.Idle = Decision.Idle
+decide kit r Event.Idle = (Ok Deed.Idle)
 decide kit r Event.Build =
     let p = r.replica (switch_leader kit) in
     decide_build p.condition p.held (built kit r).j (built kit r).k
@@ -70,13 +71,13 @@ acted kit r x Act.Panic = after_panic r x
 
 -- x is the replica concerned, the list that of a filed history
 unfoldable pub carried_out : Kit → Room → ℕ → Decision → List ℕ → Room
-carried_out kit r x (Decision.Refuse answer) list = r
-carried_out kit r x (Decision.Submit request) list = after_submit kit r request
-carried_out kit r x (Decision.Issue replica name content) list = issue r replica name content
-carried_out kit r x (Decision.Act act) list = acted kit r x act
-carried_out kit r x Decision.Idle list = r
-carried_out kit r x (Decision.Build j k) list = after_build r x (record { j = j; k = k; list = built_list r x })
-carried_out kit r x (Decision.File j k) list = after_file r j k list
+carried_out kit r x (Err answer) list = r
+carried_out kit r x (Ok (Deed.Submit request)) list = after_submit kit r request
+carried_out kit r x (Ok (Deed.Issue replica name content)) list = issue r replica name content
+carried_out kit r x (Ok (Deed.Act act)) list = acted kit r x act
+carried_out kit r x (Ok Deed.Idle) list = r
+carried_out kit r x (Ok (Deed.Build j k)) list = after_build r x (record { j = j; k = k; list = built_list r x })
+carried_out kit r x (Ok (Deed.File j k)) list = after_file r j k list
 
 -- the answer to what was decided, and the room once it is done
 abbrev pub done : Kit → Room → ℕ → List ℕ → Decision → Outcome

@@ -1,7 +1,6 @@
 -- Kind 3: a certificate and its content are delivered to one replica, on ag, up or sw. For each content what is expected, and so decided, and what is
 -- then done; at the end the answers in their order. Assumes nothing.
-use Rattle.std.specs.Prelude.{Bool, false, not, ◌&&◌, ◌||◌, List, ℕ, zero, suc, length, get_or, leb, ltb, eqb}
-use Rattle.std.proofs.Math.Option.{Option, none, some}
+use Rattle.std.specs.Prelude.{Bool, false, not, ◌&&◌, ◌||◌, List, ℕ, zero, suc, length, get_or, leb, ltb, eqb, Option, None, Some, Ok}
 use Rattle.terms.specs.Limits.{ag, up, sw}
 use Rattle.terms.specs.Lists.{pick, is_some, count_below}
 use Rattle.terms.specs.Mark.{next_mark, mark_of}
@@ -10,9 +9,10 @@ use Rattle.terms.specs.declared.Content.{Content}
 use Rattle.terms.specs.declared.Content.TheVariants.{Prepare, Commit, Update, Switch}
 use Rattle.terms.specs.declared.Condition.{Condition}
 use Rattle.terms.specs.declared.Condition.TheVariants.{Closed}
-use Rattle.terms.specs.declared.Answer.TheVariants.{NotIssued, ReceiverFaulty, TooLate, TooEarly, NotNext, WrongRoles, Unexpected}
+use Rattle.terms.specs.declared.Refusal.TheVariants.{NotIssued, ReceiverFaulty, TooLate, TooEarly, NotNext, WrongRoles, Unexpected}
 use Rattle.terms.specs.declared.Act.TheVariants as Act
-use Rattle.terms.specs.declared.Decision.{Decision}
+use Rattle.terms.specs.Numbers.{Decision}
+use Rattle.terms.specs.declared.Deed.{Deed}
 use Rattle.rules.specs.Room.{Replica, Room, with_replica, with_condition, with_mark, note, accept, issue}
 use Rattle.rules.specs.Reading.{is_running, is_closed, is_faulty, is_content, first_of, second_of, ag_total, settled_count, held_list}
 use Rattle.rules.specs.Sight.{Sight, is_new}
@@ -34,7 +34,7 @@ settle r x p c d =
 unfoldable pub decide_prepare : (ℕ → Bool) → ℕ → ℕ → Option Content → Decision
 decide_prepare new sender value content =
     let request = first_of content in
-    refuse_if (not (is_content content (Prepare request) && new request)) Unexpected (Decision.Act (Act.Prepare sender value request))
+    refuse_if (not (is_content content (Prepare request) && new request)) Unexpected (Ok (Deed.Act (Act.Prepare sender value request)))
 
 -- the receiver notes it and issues COMMIT on ag naming that leader value
 unfoldable pub after_prepare : Kit → Room → ℕ → ℕ → ℕ → ℕ → Room
@@ -49,7 +49,7 @@ after_prepare kit r sender value to request =
 -- expected: COMMIT with b = i of the receiver's noted request i, which must exist
 unfoldable pub decide_commit : ℕ → (ℕ → ℕ) → ℕ → ℕ → Option Content → Decision
 decide_commit noted_count noted_at sender value content =
-    refuse_if (not (leb value noted_count && is_content content (Commit (noted_at value) value))) Unexpected (Decision.Act (Act.Commit sender value))
+    refuse_if (not (leb value noted_count && is_content content (Commit (noted_at value) value))) Unexpected (Ok (Deed.Act (Act.Commit sender value)))
 
 unfoldable pub after_commit : Kit → Room → ℕ → ℕ → ℕ → Room
 after_commit kit r sender value to =
@@ -68,14 +68,14 @@ decide_ag s sender value content =
 -- where the receiver has noted i pairs or more, expected: UPDATE equal to pair i
 unfoldable pub decide_pair : (ℕ → ℕ) → (ℕ → ℕ) → ℕ → ℕ → Option Content → Decision
 decide_pair noted_at pair_mark_at sender value content =
-    refuse_if (not (is_content content (Update (noted_at value) (pair_mark_at value)))) Unexpected (Decision.Act (Act.KnownPair sender value))
+    refuse_if (not (is_content content (Update (noted_at value) (pair_mark_at value)))) Unexpected (Ok (Deed.Act (Act.KnownPair sender value)))
 
 -- else: UPDATE of a submitted request not yet noted
 unfoldable pub decide_update : (ℕ → Bool) → ℕ → ℕ → Option Content → Decision
 decide_update new sender value content =
     let request = first_of content in
     let mark = second_of content in
-    refuse_if (not (is_content content (Update request mark) && new request)) Unexpected (Decision.Act (Act.NewPair sender value request mark))
+    refuse_if (not (is_content content (Update request mark) && new request)) Unexpected (Ok (Deed.Act (Act.NewPair sender value request mark)))
 
 -- pair c's mark, 0 before the first
 abbrev pub mark_of_pair : List ℕ → ℕ → ℕ
@@ -93,12 +93,12 @@ decide_up s sender value content =
 -- ---- on sw
 
 abbrev pub expects_switch : Option ℕ → Option Content → Bool
-expects_switch none content = false
-expects_switch (some h) content = is_content content (Switch h)
+expects_switch None content = false
+expects_switch (Some h) content = is_content content (Switch h)
 
 -- expected: SWITCH of the history that the receiver holds
 unfoldable pub decide_sw : Option ℕ → ℕ → ℕ → Option Content → Decision
-decide_sw held sender value content = refuse_if (not (expects_switch held content)) Unexpected (Decision.Act (Act.Switch sender value))
+decide_sw held sender value content = refuse_if (not (expects_switch held content)) Unexpected (Ok (Deed.Act (Act.Switch sender value)))
 
 -- of how many replicas a SWITCH was accepted. All are other replicas: a certificate of the receiver's own is refused for its roles
 unfoldable pub switches : Kit → Replica → ℕ

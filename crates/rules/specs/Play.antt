@@ -1,10 +1,9 @@
 -- Playing: one event after the clock, the room after the first n events of a kit, and the answer to each. Laws: the folder proofs/Laws. Assumes nothing.
-use Rattle.std.proofs.Math.Option.{Option, none, some}
-use Rattle.std.specs.Prelude.{List, [], ◌∷◌, ℕ, take}
+use Rattle.std.specs.Prelude.{Option, None, Some, List, [], ◌∷◌, ℕ, take}
 use Rattle.terms.specs.Lists.{nth}
 use Rattle.terms.specs.Kit.{Kit, Entry}
 use Rattle.terms.specs.declared.Event.{Event}
-use Rattle.terms.specs.declared.Answer.{Answer}
+use Rattle.terms.specs.Numbers.{Answer}
 use Rattle.rules.specs.Room.{Room, fresh_room}
 use Rattle.rules.specs.Clock.{tick}
 use Rattle.rules.specs.Outcome.{Outcome}
@@ -28,8 +27,8 @@ unfoldable pub after : Kit → ℕ → Room
 after kit n = play kit (fresh_room kit) (take n kit.events)
 
 abbrev pub answer_in : Kit → Room → Option Entry → Option Answer
-answer_in kit r none = none
-answer_in kit r (some e) = some (step kit r e).answer
+answer_in kit r None = None
+answer_in kit r (Some e) = Some (step kit r e).answer
 
 -- the answer to the event that comes after the first n
 unfoldable pub answer : Kit → ℕ → Option Answer

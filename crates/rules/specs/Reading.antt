@@ -1,6 +1,5 @@
 -- What is read off a room: contents by value, settled counts and lists, whether a request is answered. Laws: ReadingLaws. Assumes nothing.
-use Rattle.std.specs.Prelude.{Bool, true, false, ◌&&◌, List, [], ℕ, zero, suc, ◌-◌, length, take, get_or, eqb}
-use Rattle.std.proofs.Math.Option.{Option, none, some}
+use Rattle.std.specs.Prelude.{Bool, true, false, ◌&&◌, List, [], ℕ, zero, suc, ◌-◌, length, take, get_or, eqb, Option, None, Some}
 use Rattle.terms.specs.Limits.{ag, up}
 use Rattle.terms.specs.Lists.{pick, nth, all_of, any_below, least_over}
 use Rattle.terms.specs.Kit.{Kit}
@@ -40,7 +39,7 @@ entry_at list i = get_or list (i - 1) 0
 
 -- the content at a value of a counter: value 0 is never issued
 abbrev pub content_at : List Content → ℕ → Option Content
-content_at issued zero = none
+content_at issued zero = None
 content_at issued (suc i) = nth issued i
 
 -- the same kind, a and b
@@ -51,17 +50,17 @@ same_content c d =
 
 -- whether this content was issued there
 abbrev pub is_content : Option Content → Content → Bool
-is_content none c = false
-is_content (some d) c = same_content d c
+is_content None c = false
+is_content (Some d) c = same_content d c
 
 -- a and b of a content
 abbrev pub first_of : Option Content → ℕ
-first_of none = 0
-first_of (some c) = get_or (content_numbers c) 1 0
+first_of None = 0
+first_of (Some c) = get_or (content_numbers c) 1 0
 
 abbrev pub second_of : Option Content → ℕ
-second_of none = 0
-second_of (some c) = get_or (content_numbers c) 2 0
+second_of None = 0
+second_of (Some c) = get_or (content_numbers c) 2 0
 
 -- ---- settled
 
@@ -85,12 +84,12 @@ unfoldable pub settled_noted : Kit → ℕ → Replica → ℕ → List ℕ
 settled_noted kit x p own = take (settled_count kit x p own) p.noted
 
 abbrev pub list_of : Option Filing → List ℕ
-list_of none = []
-list_of (some h) = h.list
+list_of None = []
+list_of (Some h) = h.list
 
 unfoldable pub held_list : Room → Option ℕ → List ℕ
-held_list r none = []
-held_list r (some h) = list_of (nth r.histories h)
+held_list r None = []
+held_list r (Some h) = list_of (nth r.histories h)
 
 -- a faulty replica settles nothing, a closed one has settled the whole list of the history that it holds
 unfoldable pub settled : Kit → Room → ℕ → List ℕ

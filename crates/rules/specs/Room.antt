@@ -1,6 +1,5 @@
 -- The room: what is remembered between two events, and the ways in which one part of it changes. Laws: RoomLaws. Assumes nothing.
-use Rattle.std.specs.Prelude.{Bool, ◌&&◌, List, [], ◌∷◌, ◌++◌, ℕ, eqb}
-use Rattle.std.proofs.Math.Option.{Option, none, some}
+use Rattle.std.specs.Prelude.{Bool, ◌&&◌, List, [], ◌∷◌, ◌++◌, ℕ, eqb, Option, None, Some}
 use Rattle.terms.specs.Lists.{pick}
 use Rattle.terms.specs.Kit.{Kit}
 use Rattle.terms.specs.declared.Content.{Content}
@@ -40,13 +39,13 @@ pub record Room : Type 0 where
 
 unfoldable pub fresh_replica : Bool → Replica
 fresh_replica faulty =
-    record { condition = pick faulty Faulty Running; noted = []; pair_marks = []; mark = 0; accepted = λ sender name. 0; held = none }
+    record { condition = pick faulty Faulty Running; noted = []; pair_marks = []; mark = 0; accepted = λ sender name. 0; held = None }
 
 unfoldable pub fresh_room : Kit → Room
 fresh_room kit =
     record {
       clock = 0;
-      late = none;
+      late = None;
       submitted = [];
       ticks = [];
       histories = [];
@@ -183,4 +182,4 @@ accept p sender name value =
     }
 
 unfoldable pub hold : Replica → ℕ → Replica
-hold p h = record { condition = p.condition; noted = p.noted; pair_marks = p.pair_marks; mark = p.mark; accepted = p.accepted; held = some h }
+hold p h = record { condition = p.condition; noted = p.noted; pair_marks = p.pair_marks; mark = p.mark; accepted = p.accepted; held = Some h }

@@ -1,7 +1,6 @@
 -- What an event is decided by: what is asked of the kit and of the room, for the replica concerned. The player's arrays are asked the same, and
 -- that they answer the same is a law of crate decide. Assumes nothing.
-use Rattle.std.specs.Prelude.{Bool, ◌&&◌, not, ℕ, length}
-use Rattle.std.proofs.Math.Option.{Option}
+use Rattle.std.specs.Prelude.{Bool, ◌&&◌, not, ℕ, length, Option}
 use Rattle.terms.specs.Lists.{holds}
 use Rattle.terms.specs.Kit.{Kit}
 use Rattle.terms.specs.declared.Condition.{Condition}

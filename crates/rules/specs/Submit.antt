@@ -1,14 +1,15 @@
 -- Events of the client and of faulty replicas: a request is submitted, a faulty replica issues, a history is filed. Of each, what is decided and what is
 -- then done. Assumes nothing.
-use Rattle.std.specs.Prelude.{Bool, false, not, List, ℕ, suc, leb}
+use Rattle.std.specs.Prelude.{Bool, false, not, List, ℕ, suc, leb, Ok}
 use Rattle.terms.specs.Limits.{ag, places_max, requests_max, filed_max}
 use Rattle.terms.specs.Lists.{pick}
 use Rattle.terms.specs.Kit.{Kit}
 use Rattle.terms.specs.declared.Content.{Content}
 use Rattle.terms.specs.declared.Content.TheVariants.{Prepare, Commit, Update, History, Switch}
 use Rattle.terms.specs.declared.Condition.{Condition}
-use Rattle.terms.specs.declared.Answer.TheVariants.{AlreadySubmitted, SubmissionsFull, NotFaulty, Unexpected, CounterFull, FilesFull}
-use Rattle.terms.specs.declared.Decision.{Decision}
+use Rattle.terms.specs.declared.Refusal.TheVariants.{AlreadySubmitted, SubmissionsFull, NotFaulty, Unexpected, CounterFull, FilesFull}
+use Rattle.terms.specs.Numbers.{Decision}
+use Rattle.terms.specs.declared.Deed.{Deed}
 use Rattle.rules.specs.Room.{Room, remember, with_replica, with_history, note, issue}
 use Rattle.rules.specs.Reading.{is_running, is_faulty}
 use Rattle.rules.specs.Outcome.{refuse_if}
@@ -20,7 +21,7 @@ unfoldable pub decide_submit : (ℕ → Bool) → ℕ → ℕ → Decision
 decide_submit is_submitted submitted request =
     refuse_if (is_submitted request) AlreadySubmitted
     (refuse_if (leb requests_max submitted) SubmissionsFull
-    (Decision.Submit request))
+    (Ok (Deed.Submit request)))
 
 unfoldable pub after_submit : Kit → Room → ℕ → Room
 after_submit kit r request =
@@ -45,13 +46,13 @@ decide_issue condition histories places x name content =
     refuse_if (not (is_faulty condition)) NotFaulty
     (refuse_if (names_unfiled histories content) Unexpected
     (refuse_if (leb places_max places) CounterFull
-    (Decision.Issue x name content)))
+    (Ok (Deed.Issue x name content))))
 
 -- ---- kind 8: a history is filed, seven at the most
 
 -- by how many were filed by events 8
 unfoldable pub decide_file : ℕ → ℕ → ℕ → Decision
-decide_file filed j k = refuse_if (leb filed_max filed) FilesFull (Decision.File j k)
+decide_file filed j k = refuse_if (leb filed_max filed) FilesFull (Ok (Deed.File j k))
 
 unfoldable pub after_file : Room → ℕ → ℕ → List ℕ → Room
 after_file r j k list = with_history r (record { j = j; k = k; list = list }) (suc r.filed)

@@ -1,7 +1,6 @@
 -- The way to the fall-back: PANIC reaches a replica (kind 5), the switch leader builds its history (kind 7), which is handed to the others
 -- (kind 4). Of each, what is decided and what is then done. Assumes nothing.
-use Rattle.std.specs.Prelude.{Bool, false, not, ◌&&◌, ◌||◌, List, [], ◌∷◌, ◌++◌, ℕ, suc, length, take, eqb}
-use Rattle.std.proofs.Math.Option.{Option, none, some}
+use Rattle.std.specs.Prelude.{Bool, false, not, ◌&&◌, ◌||◌, List, [], ◌∷◌, ◌++◌, ℕ, suc, length, take, eqb, Option, None, Some, Ok}
 use Rattle.terms.specs.Limits.{ag, up, sw}
 use Rattle.terms.specs.Lists.{pick, holds, distinct, all_of, all_below, is_some}
 use Rattle.terms.specs.Mark.{mark_of}
@@ -10,9 +9,10 @@ use Rattle.terms.specs.declared.Content.{Content}
 use Rattle.terms.specs.declared.Content.TheVariants.{Prepare, Commit, Update, History, Switch}
 use Rattle.terms.specs.declared.Condition.{Condition}
 use Rattle.terms.specs.declared.Condition.TheVariants.{Halted}
-use Rattle.terms.specs.declared.Answer.TheVariants.{NotIssued, ReceiverFaulty, TooLate, TooEarly, WrongRoles, NotValid, CannotBuild}
+use Rattle.terms.specs.declared.Refusal.TheVariants.{NotIssued, ReceiverFaulty, TooLate, TooEarly, WrongRoles, NotValid, CannotBuild}
 use Rattle.terms.specs.declared.Act.TheVariants as Act
-use Rattle.terms.specs.declared.Decision.{Decision}
+use Rattle.terms.specs.Numbers.{Decision}
+use Rattle.terms.specs.declared.Deed.{Deed}
 use Rattle.rules.specs.Table.{actives, switch_leader}
 use Rattle.rules.specs.Room.{Filing, Room, with_replica, with_condition, with_history, hold, issue}
 use Rattle.rules.specs.Reading.{is_running, is_closed, is_faulty, entry_at, content_at, is_content, first_of, ag_total, settled_count}
@@ -25,7 +25,7 @@ unfoldable pub decide_panic : Condition → Decision
 decide_panic condition =
     refuse_if (is_faulty condition) ReceiverFaulty
     (refuse_if (not (is_running condition)) TooLate
-    (Decision.Act Act.Panic))
+    (Ok (Deed.Act Act.Panic)))
 
 unfoldable pub after_panic : Room → ℕ → Room
 after_panic r to = with_replica r to (with_condition (r.replica to) Halted)
@@ -49,7 +49,7 @@ built kit r =
 
 -- by its condition and the history that it holds
 unfoldable pub decide_build : Condition → Option ℕ → ℕ → ℕ → Decision
-decide_build condition held j k = refuse_if (is_faulty condition || (is_running condition || is_some held)) CannotBuild (Decision.Build j k)
+decide_build condition held j k = refuse_if (is_faulty condition || (is_running condition || is_some held)) CannotBuild (Ok (Deed.Build j k))
 
 -- the history is filed, HISTORY issued on ag and up, held, SWITCH issued on sw
 unfoldable pub after_build : Room → ℕ → Filing → Room
@@ -88,8 +88,8 @@ is_valid kit r p q h filing =
     && (all_of filing.list (λ request. holds request r.submitted) && distinct filing.list))))))
 
 abbrev pub is_valid_filing : Kit → Room → ℕ → ℕ → ℕ → Option Filing → Bool
-is_valid_filing kit r p q h none = false
-is_valid_filing kit r p q h (some filing) = is_valid kit r p q h filing
+is_valid_filing kit r p q h None = false
+is_valid_filing kit r p q h (Some filing) = is_valid kit r p q h filing
 
 -- once both certificates are known to be issued, the one on ag of history h: by the receiver's condition, the history that it holds, and whether h
 -- is valid
@@ -99,7 +99,7 @@ decide_hold condition held valid switcher to h =
     (refuse_if (is_running condition) TooEarly
     (refuse_if (eqb to switcher) WrongRoles
     (refuse_if (not valid) NotValid
-    (Decision.Act (Act.Hand h)))))
+    (Ok (Deed.Act (Act.Hand h))))))
 
 -- the switch leader, the receiver, what the switch leader's ag value and up value are bound to, if they were issued, and which histories are valid at them
 pub record Handing : Type 0 where

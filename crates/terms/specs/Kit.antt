@@ -1,7 +1,6 @@
 -- A kit as a value: f, leader, patience, the table, the events; what its numbers are, and which values document 01 allows. Assumes nothing.
-use Rattle.std.specs.Prelude.{◌≡◌, ℕ, ◌+◌, ◌-◌, ◌<◌, ◌≤◌, Bool, true, not, ◌||◌, List, [], ◌∷◌, ◌++◌, length, ◌==◌, nat_le, slice_index}
+use Rattle.std.specs.Prelude.{◌≡◌, ℕ, ◌+◌, ◌-◌, ◌<◌, ◌≤◌, Bool, true, not, ◌||◌, List, [], ◌∷◌, ◌++◌, length, ◌==◌, nat_le, slice_index, Some}
 use Rattle.terms.specs.Limits.{replicas, faults_max, ticks_max, events_max, name_max, requests_max}
-use Rattle.std.proofs.Math.Option.{some}
 use Rattle.terms.specs.Lists.{count_of, all_of, nth}
 use Rattle.terms.specs.Numbers.{content_numbers}
 use Rattle.terms.specs.declared.Event.{Event}
@@ -72,7 +71,7 @@ pub record GoodEntry (size : ℕ) (e : Entry) : Type 0 where
   pub event : GoodEvent size e.event e.requests
 
 abbrev pub GoodEntries : ℕ → List Entry → Type 0
-GoodEntries size es = (i : ℕ) (e : Entry) → nth es i ≡ some e → GoodEntry size e
+GoodEntries size es = (i : ℕ) (e : Entry) → nth es i ≡ Some e → GoodEntry size e
 
 abbrev pub is_table_number : ℕ → Bool
 is_table_number n = nat_le n 3

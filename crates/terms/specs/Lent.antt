@@ -1,5 +1,6 @@
 -- The arrays that are lent from one layer to the next, as lists: the code's type aliases of the same names. Assumes nothing.
-use Rattle.std.specs.Prelude.{ℕ, List}
+use Rattle.std.specs.Prelude.{ℕ, List, []}
+use Rattle.terms.specs.declared.History.{History}
 
 -- one number a replica
 abbrev pub Table : Type 0
@@ -20,12 +21,13 @@ Marks = List ℕ
 abbrev pub Accepted : Type 0
 Accepted = List ℕ
 
--- of each history j, k and the length of its list; the lists
-abbrev pub Heads : Type 0
-Heads = List (List ℕ)
+-- the histories, those filed by events 8 and the built one
+abbrev pub Histories : Type 0
+Histories = List History
 
-abbrev pub Lists : Type 0
-Lists = List (List ℕ)
+-- what stands where there is no history
+abbrev pub no_history : History
+no_history = record { j = 0; k = 0; count = 0; list = [] }
 
 -- the clock after each event, and the number that it was answered by
 abbrev pub Clocks : Type 0

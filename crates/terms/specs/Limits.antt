@@ -1,5 +1,5 @@
 -- Document 01's limits, each by its name, and the names of the counters. The code has the same as constants of crate terms. Assumes nothing.
-use Rattle.std.specs.Prelude.{ℕ, ◌+◌, ◌*◌}
+use Rattle.std.specs.Prelude.{ℕ, ◌+◌}
 
 -- ---- replicas
 

@@ -1,9 +1,8 @@
 -- Laws of Lists. In order: tests taken apart (`split`, `no_way`, `and_l`), elements by place and prefixes (`nth-…`, `sub_prefix`), tests below a bound,
 -- the least (`least_over-…`), lists that hold a number, tests of every element, lists in which nothing stands twice (`once-…`). Assumes nothing.
-use Rattle.std.specs.Prelude.{◌≡◌, ℕ, zero, suc, ◌+◌, ◌<◌, ◌≤◌, Bool, true, false, not, ◌&&◌, ◌||◌, ◌≢◌, ◌⊎◌, List, [], ◌∷◌, ◌++◌, length, get_or, take, drop, ◌==◌, nat_lt, refl}
+use Rattle.std.specs.Prelude.{◌≡◌, ℕ, zero, suc, ◌+◌, ◌<◌, ◌≤◌, Bool, true, false, not, ◌&&◌, ◌||◌, ◌≢◌, ◌⊎◌, List, [], ◌∷◌, ◌++◌, length, get_or, take, drop, ◌==◌, nat_lt, refl, None, Some}
 use Rattle.std.proofs.Common.{sym, ap, ◌∙◌, inl, inr, ⊎_elim, le_of_suc-le-suc, arith, length-append, ltb-true, ltb-false, eqb-true, eq-eqb}
 use Rattle.std.proofs.Math.Bool.{or-true}
-use Rattle.std.proofs.Math.Option.{none, some}
 use Rattle.std.proofs.Math.Seq.{drop-append_seam}
 use Rattle.std.proofs.lemmas.Bool.{eqb-false}
 use Rattle.terms.specs.Lists.{pick, all_below, any_below, all_of, holds, distinct, least_over, nth, ◌⊑◌, Sub, Agree, Once}
@@ -48,55 +47,55 @@ pub not_was_true : (a : Bool) → not a ≡ true → a ≡ false
 not_was_true true e = cc
 not_was_true false e = refl
 
-module _ {ℓ} {A : Type ℓ} where
-  pub nth-append : (l m : List A) (i : ℕ) {a : A} → nth l i ≡ some a → nth (l ++ m) i ≡ some a
+module _ {A : Type 0} where
+  pub nth-append : (l m : List A) (i : ℕ) {a : A} → nth l i ≡ Some a → nth (l ++ m) i ≡ Some a
   nth-append [] m i e = cc
   nth-append (x ∷ xs) m zero e = e
   nth-append (x ∷ xs) m (suc i) e = nth-append xs m i e
 
-  pub nth-lt : (l : List A) (i : ℕ) {a : A} → nth l i ≡ some a → i < length l
+  pub nth-lt : (l : List A) (i : ℕ) {a : A} → nth l i ≡ Some a → i < length l
   nth-lt [] i e = no_way (cc)
   nth-lt (x ∷ xs) zero e = omega arith
   nth-lt (x ∷ xs) (suc i) e = omega (arith, nth-lt xs i e)
 
-  pub nth_in : (l : List A) (i : ℕ) → i < length l → (a : A) × (nth l i ≡ some a)
+  pub nth_in : (l : List A) (i : ℕ) → i < length l → (a : A) × (nth l i ≡ Some a)
   nth_in [] i h = absurd (omega arith)
   nth_in (x ∷ xs) zero h = (x, refl)
   nth_in (x ∷ xs) (suc i) h = nth_in xs i (le_of_suc-le-suc h)
 
   -- a list with something at each place below n has n elements, one with nothing at place i has no more than i
-  pub nth_full : (l : List A) (n : ℕ) → ((i : ℕ) → i < n → (a : A) × (nth l i ≡ some a)) → n ≤ length l
+  pub nth_full : (l : List A) (n : ℕ) → ((i : ℕ) → i < n → (a : A) × (nth l i ≡ Some a)) → n ≤ length l
   nth_full l n f =
       split (nat_lt (length l) n)
       (λ t. let h = f (length l) (ltb-true (length l) n t) in absurd (omega (arith, nth-lt l (length l) h.1)))
       (λ t. ltb-false (length l) n t)
 
-  pub nth-none : (l : List A) (i : ℕ) → nth l i ≡ none → length l ≤ i
+  pub nth-none : (l : List A) (i : ℕ) → nth l i ≡ None → length l ≤ i
   nth-none l i e =
       split (nat_lt i (length l)) (λ t. let h = nth_in l i (ltb-true i (length l) t) in no_way (cc (h.1, e))) (λ t. ltb-false i (length l) t)
 
-  pub nth-snoc : (l : List A) (a : A) → nth (l ++ (a ∷ [])) (length l) ≡ some a
+  pub nth-snoc : (l : List A) (a : A) → nth (l ++ (a ∷ [])) (length l) ≡ Some a
   nth-snoc [] a = refl
   nth-snoc (x ∷ xs) a = nth-snoc xs a
 
-  pub nth-snoc_inv : (l : List A) (a : A) (i : ℕ) {b : A} → nth (l ++ (a ∷ [])) i ≡ some b → (nth l i ≡ some b) ⊎ ((i ≡ length l) × (a ≡ b))
+  pub nth-snoc_inv : (l : List A) (a : A) (i : ℕ) {b : A} → nth (l ++ (a ∷ [])) i ≡ Some b → (nth l i ≡ Some b) ⊎ ((i ≡ length l) × (a ≡ b))
   nth-snoc_inv [] a zero e = inr (refl, cc)
   nth-snoc_inv [] a (suc i) e = inl e
   nth-snoc_inv (x ∷ xs) a zero e = inl e
   nth-snoc_inv (x ∷ xs) a (suc i) e = ⊎_elim (λ p. inl p) (λ p. inr (ap suc p.0, p.1)) (nth-snoc_inv xs a i e)
 
-  pub nth_app_inv : (l m : List A) (i : ℕ) {b : A} → nth (l ++ m) i ≡ some b → (nth l i ≡ some b) ⊎ ((j : ℕ) × (i ≡ length l + j) × (nth m j ≡ some b))
+  pub nth_app_inv : (l m : List A) (i : ℕ) {b : A} → nth (l ++ m) i ≡ Some b → (nth l i ≡ Some b) ⊎ ((j : ℕ) × (i ≡ length l + j) × (nth m j ≡ Some b))
   nth_app_inv [] m i e = inr (i, omega arith, e)
   nth_app_inv (x ∷ xs) m zero e = inl e
   nth_app_inv (x ∷ xs) m (suc i) e = ⊎_elim (λ p. inl p) (λ p. inr (p.0, omega (arith, p.1), p.2)) (nth_app_inv xs m i e)
 
-  pub nth-take : (n : ℕ) (l : List A) (i : ℕ) {a : A} → nth (take n l) i ≡ some a → (i < n) × (nth l i ≡ some a)
+  pub nth-take : (n : ℕ) (l : List A) (i : ℕ) {a : A} → nth (take n l) i ≡ Some a → (i < n) × (nth l i ≡ Some a)
   nth-take zero l i e = no_way (cc)
   nth-take (suc n) [] i e = no_way (cc)
   nth-take (suc n) (x ∷ xs) zero e = (omega arith, e)
   nth-take (suc n) (x ∷ xs) (suc i) e = let h = nth-take n xs i e in (omega arith, h.1)
 
-  pub take_nth : (n : ℕ) (l : List A) (i : ℕ) {a : A} → i < n → nth l i ≡ some a → nth (take n l) i ≡ some a
+  pub take_nth : (n : ℕ) (l : List A) (i : ℕ) {a : A} → i < n → nth l i ≡ Some a → nth (take n l) i ≡ Some a
   take_nth zero l i h e = absurd (omega arith)
   take_nth (suc n) [] i h e = e
   take_nth (suc n) (x ∷ xs) zero h e = e
@@ -164,12 +163,12 @@ holds-snoc r (x ∷ xs) a = rw (holds-snoc r xs a) (or_assoc (r == x))
     or_assoc true = refl
     or_assoc false = refl
 
-pub holds_at : (l : List ℕ) (i r : ℕ) → nth l i ≡ some r → holds r l ≡ true
+pub holds_at : (l : List ℕ) (i r : ℕ) → nth l i ≡ Some r → holds r l ≡ true
 holds_at [] i r e = no_way (cc)
 holds_at (x ∷ xs) zero r e = let q : x ≡ r = cc in rw (q, eqb_same r)
 holds_at (x ∷ xs) (suc i) r e = rw (holds_at xs i r e) (or-true (r == x))
 
-pub not_holds : (l : List ℕ) (r : ℕ) → holds r l ≡ false → (i : ℕ) → nth l i ≡ some r → ⊥
+pub not_holds : (l : List ℕ) (r : ℕ) → holds r l ≡ false → (i : ℕ) → nth l i ≡ Some r → ⊥
 not_holds l r e i h = no_way (cc (holds_at l i r h))
 
 pub once-snoc : (l : List ℕ) (r : ℕ) → Once l → holds r l ≡ false → Once (l ++ (r ∷ []))
@@ -187,7 +186,7 @@ tri a b =
 pub same? : (a b : ℕ) → (a ≡ b) ⊎ (a ≢ b)
 same? a b = split (a == b) (λ q. inl (eqb-true a b q)) (λ q. inr (eqb-false a b q))
 
-pub nth-get_or : (l : List ℕ) (i d : ℕ) → i < length l → nth l i ≡ some (get_or l i d)
+pub nth-get_or : (l : List ℕ) (i d : ℕ) → i < length l → nth l i ≡ Some (get_or l i d)
 nth-get_or [] i d h = absurd (omega arith)
 nth-get_or (x ∷ xs) zero d h = refl
 nth-get_or (x ∷ xs) (suc i) d h = nth-get_or xs i d (le_of_suc-le-suc h)
@@ -195,7 +194,7 @@ nth-get_or (x ∷ xs) (suc i) d h = nth-get_or xs i d (le_of_suc-le-suc h)
 pub length-snoc {ℓ} : {A : Type ℓ} (l : List A) (a : A) → length (l ++ (a ∷ [])) ≡ suc (length l)
 length-snoc l a = omega (arith, length-append l (a ∷ []))
 
-pub holds_nth : (l : List ℕ) (r : ℕ) → holds r l ≡ true → (i : ℕ) × (nth l i ≡ some r)
+pub holds_nth : (l : List ℕ) (r : ℕ) → holds r l ≡ true → (i : ℕ) × (nth l i ≡ Some r)
 holds_nth [] r e = no_way (cc)
 holds_nth (x ∷ xs) r e =
     split (r == x) (λ t. (0, cc (eqb-true r x t)))
@@ -207,12 +206,12 @@ pub not_true_false : (t : Bool) → (t ≢ true) → t ≡ false
 not_true_false true f = absurd (f refl)
 not_true_false false f = refl
 
-pub all_of_at : (l : List ℕ) (t : ℕ → Bool) → all_of l t ≡ true → (i a : ℕ) → nth l i ≡ some a → t a ≡ true
+pub all_of_at : (l : List ℕ) (t : ℕ → Bool) → all_of l t ≡ true → (i a : ℕ) → nth l i ≡ Some a → t a ≡ true
 all_of_at [] t e i a h = no_way (cc)
 all_of_at (x ∷ xs) t e zero a h = let z : x ≡ a = cc in rw z at (and_l (t x) (all_of xs t) e)
 all_of_at (x ∷ xs) t e (suc i) a h = all_of_at xs t (and_r (t x) (all_of xs t) e) i a h
 
-pub all_of_from : (l : List ℕ) (t : ℕ → Bool) → ((i a : ℕ) → nth l i ≡ some a → t a ≡ true) → all_of l t ≡ true
+pub all_of_from : (l : List ℕ) (t : ℕ → Bool) → ((i a : ℕ) → nth l i ≡ Some a → t a ≡ true) → all_of l t ≡ true
 all_of_from [] t f = refl
 all_of_from (x ∷ xs) t f = and_both (f 0 x refl) (all_of_from xs t (λ i a h. f (suc i) a h))
 
@@ -228,7 +227,7 @@ once-cons x xs e o zero (suc j) a p q = let z : x ≡ a = cc in absurd (not_hold
 once-cons x xs e o (suc i) zero a p q = let z : x ≡ a = cc in absurd (not_holds xs x e i (rw z p))
 once-cons x xs e o (suc i) (suc j) a p q = ap suc (o i j a p q)
 
-pub once-append : (l m : List ℕ) → Once l → Once m → ((i j a : ℕ) → nth l i ≡ some a → nth m j ≡ some a → ⊥) → Once (l ++ m)
+pub once-append : (l m : List ℕ) → Once l → Once m → ((i j a : ℕ) → nth l i ≡ Some a → nth m j ≡ Some a → ⊥) → Once (l ++ m)
 once-append l m ol om d i j a p q =
     ⊎_elim
     (λ p₁. ⊎_elim (λ q₁. ol i j a p₁ q₁) (λ q₁. absurd (d i q₁.0 a p₁ q₁.2)) (nth_app_inv l m j q))
@@ -253,13 +252,13 @@ any_below_past (suc k) n t h e =
     let below : n ≤ k = omega arith in
     rw (e k below) (any_below_past k n t below e))
 
-pub sub_length {ℓ} : {A : Type ℓ} (l m : List A) → Sub l m → length l ≤ length m
+pub sub_length : {A : Type 0} (l m : List A) → Sub l m → length l ≤ length m
 sub_length l m f = let h = sub_prefix l m f in rw (← h.1) (omega (arith, length-append l h.0))
 
-pub nth_drop {ℓ} : {A : Type ℓ} (k : ℕ) (l : List A) (i : ℕ) → nth (drop k l) i ≡ nth l (k + i)
+pub nth_drop : {A : Type 0} (k : ℕ) (l : List A) (i : ℕ) → nth (drop k l) i ≡ nth l (k + i)
 nth_drop zero l i = let z : 0 + i ≡ i = omega arith in rw z
 nth_drop (suc k) [] i = refl
 nth_drop (suc k) (x ∷ xs) i = let z : suc k + i ≡ suc (k + i) = omega arith in rw z (nth_drop k xs i)
 
-pub nth_behind {ℓ} : {A : Type ℓ} (l m : List A) (i : ℕ) → nth (l ++ m) (length l + i) ≡ nth m i
+pub nth_behind : {A : Type 0} (l m : List A) (i : ℕ) → nth (l ++ m) (length l + i) ≡ nth m i
 nth_behind l m i = sym (nth_drop (length l) (l ++ m) i) ∙ ap (λ (z : List _). nth z i) (drop-append_seam l m)

@@ -1,6 +1,5 @@
 -- Choosing by a test, and lists: what every definition of the project is written with. Laws: ListLaws. Assumes nothing.
-use Rattle.std.specs.Prelude.{◌≡◌, ℕ, zero, suc, min, Bool, true, false, not, ◌&&◌, ◌||◌, List, [], ◌∷◌, ◌++◌, ◌==◌, nat_le}
-use Rattle.std.proofs.Math.Option.{Option, none, some}
+use Rattle.std.specs.Prelude.{◌≡◌, ℕ, zero, suc, min, Bool, true, false, not, ◌&&◌, ◌||◌, List, [], ◌∷◌, ◌++◌, ◌==◌, nat_le, Option, None, Some}
 
 -- the first where the test is true, else the second
 abbrev pub pick {ℓ} : {A : Type ℓ} → Bool → A → A → A
@@ -55,30 +54,30 @@ least_over (y ∷ ys) g d = min (g y) (least_over ys g d)
 
 -- ---- reading by place, prefixes
 
-module _ {ℓ} {A : Type ℓ} where
+module _ {A : Type 0} where
   -- the element at a place, counted from 0
   abbrev pub nth : List A → ℕ → Option A
-  nth [] n = none
-  nth (x ∷ xs) zero = some x
+  nth [] n = None
+  nth (x ∷ xs) zero = Some x
   nth (x ∷ xs) (suc n) = nth xs n
 
   infix 40 ◌⊑◌
   -- the first stands at the front of the second
-  abbrev pub ◌⊑◌ : List A → List A → Type ℓ
+  abbrev pub ◌⊑◌ : List A → List A → Type 0
   ◌⊑◌ l m = (s : List A) × (l ++ s ≡ m)
 
   -- the same, place by place
-  abbrev pub Sub : List A → List A → Type ℓ
-  Sub l m = (i : ℕ) (a : A) → nth l i ≡ some a → nth m i ≡ some a
+  abbrev pub Sub : List A → List A → Type 0
+  Sub l m = (i : ℕ) (a : A) → nth l i ≡ Some a → nth m i ≡ Some a
 
   -- wherever both have an element it is the same
-  abbrev pub Agree : List A → List A → Type ℓ
-  Agree l m = (i : ℕ) (a b : A) → nth l i ≡ some a → nth m i ≡ some b → a ≡ b
+  abbrev pub Agree : List A → List A → Type 0
+  Agree l m = (i : ℕ) (a b : A) → nth l i ≡ Some a → nth m i ≡ Some b → a ≡ b
 
   -- no element stands at two places
-  abbrev pub Once : List A → Type ℓ
-  Once l = (i j : ℕ) (a : A) → nth l i ≡ some a → nth l j ≡ some a → i ≡ j
+  abbrev pub Once : List A → Type 0
+  Once l = (i j : ℕ) (a : A) → nth l i ≡ Some a → nth l j ≡ Some a → i ≡ j
 
-abbrev pub is_some {ℓ} : {A : Type ℓ} → Option A → Bool
-is_some none = false
-is_some (some a) = true
+abbrev pub is_some : {A : Type 0} → Option A → Bool
+is_some None = false
+is_some (Some a) = true

@@ -2,8 +2,8 @@
 // that are lent from one layer to the next; and small functions of numbers and lists.
 #![tactic(auto)]
 
-ghost use Rattle.std.specs.Prelude.{◌≡◌, min, take};
-ghost use Rattle.terms.specs.Numbers.{content_of, content_numbers, kind_of, kind_number, kit_number_of, answer_number};
+ghost use Rattle.std.specs.Prelude.{◌≡◌, take, ok_or, slice_index};
+ghost use Rattle.terms.specs.Numbers.{content_of, content_numbers, kind_of, kind_number, kit_number_of, kit_refusal_number, refusal_number};
 ghost use Rattle.terms.specs.Mark.{next_mark};
 ghost use Rattle.terms.specs.Kit.{marks_active, marks_faulty};
 ghost use Rattle.terms.specs.Lists.{holds};
@@ -45,21 +45,47 @@ pub type Ticks = [u64; REQUESTS];
 pub type Marks = [u32; REQUESTS];
 // The last accepted value of each sender's counters.
 pub type Accepted = [u32; COUNTERS];
-// Of each history j, k and the length of its list; the lists.
-pub type Head = [usize; 3];
-
-pub type Heads = [Head; HISTORIES];
-
-pub type Lists = [Requests; HISTORIES];
+// The histories, those filed by events 8 and the built one.
+pub type Histories = [History; HISTORIES];
 // The clock after each event, and the number that it was answered by.
 pub type Clocks = [u64; EVENTS];
 
 pub type Answers = [u32; EVENTS];
 
+// ---- what is lent together
+
+// What a kit's settings say of the replicas, with the table, and the patience.
+#[derive(Clone, Copy)]
+pub struct Roles {
+    pub f: u32,
+    pub size: usize,
+    pub leader: usize,
+    pub switcher: usize,
+    pub patience: u32,
+    pub table: Table,
+}
+
+// What clients have submitted: the requests in order, and the ticks of their events. Two arrays, not one of pairs: the requests are searched
+// as a list (`holds`).
+#[derive(Clone, Copy)]
+pub struct Submissions {
+    pub requests: Requests,
+    pub ticks: Ticks,
+}
+
+// One history: j and k, how many requests it lists, and its list: an array with a number beside it, since memory is fixed.
+#[derive(Clone, Copy)]
+pub struct History {
+    pub j: usize,
+    pub k: usize,
+    pub count: usize,
+    pub list: Requests,
+}
+
 // ---- words
 
 // What a certificate says. A content's kind, a and b are `numbers_of_content`.
-#[derive(Clone, Copy)]
+#[derive(Clone, Copy, PartialEq, Eq)]
 pub enum Content {
     // Of a request.
     Prepare(u32),
@@ -73,15 +99,8 @@ pub enum Content {
     Switch(u32),
 }
 
-// A content chosen over its numbers, or none.
-#[derive(Clone, Copy)]
-pub enum ContentChoice {
-    Content(Content),
-    Refused,
-}
-
 // What a replica is doing.
-#[derive(Clone, Copy)]
+#[derive(Clone, Copy, Debug, PartialEq, Eq)]
 pub enum Condition {
     Running,
     Halted,
@@ -100,13 +119,6 @@ pub enum Kind {
     Idle,
     Build,
     File,
-}
-
-// A kind chosen over its number, or none.
-#[derive(Clone, Copy)]
-pub enum KindChoice {
-    Kind(Kind),
-    Refused,
 }
 
 // One event with its operands. The requests of a filed history stand beside it.
@@ -129,10 +141,9 @@ pub enum Event {
     File(u32, u32),
 }
 
-// What is said of a whole kit.
-#[derive(Clone, Copy)]
-pub enum KitAnswer {
-    Accepted,
+// What refuses a whole kit.
+#[derive(Clone, Copy, Debug, PartialEq, Eq)]
+pub enum KitRefusal {
     // The bytes end too soon.
     Cut,
     // A number is spelled wrong.
@@ -149,10 +160,9 @@ pub enum KitAnswer {
     TooLong,
 }
 
-// What is said of one event.
-#[derive(Clone, Copy)]
-pub enum Answer {
-    Taken,
+// What refuses an event.
+#[derive(Clone, Copy, Debug, PartialEq, Eq)]
+pub enum Refusal {
     AlreadySubmitted,
     SubmissionsFull,
     NotFaulty,
@@ -169,11 +179,9 @@ pub enum Answer {
     CannotBuild,
 }
 
-// What an event comes to, once it is decided: a refusal, or what is to be done. The replica concerned is known beside it.
+// What is to be done where an event is taken. The replica concerned is known beside it.
 #[derive(Clone, Copy)]
-pub enum Decision {
-    // The event is refused.
-    Refuse(Answer),
+pub enum Deed {
     // The request is remembered; the leader, if it runs, prepares it.
     Submit(u32),
     // A faulty replica issues on its counter of this name.
@@ -186,6 +194,9 @@ pub enum Decision {
     // j and k of the history that is filed.
     File(u32, u32),
 }
+
+// What an event comes to, once it is decided: what is to be done, or a refusal.
+pub type Decision = Result<Deed, Refusal>;
 
 // What a replica does at what has reached it: its own record changes, and it may issue on its own counters; nothing else of the room is touched.
 #[derive(Clone, Copy)]
@@ -206,122 +217,136 @@ pub enum Act {
     Panic,
 }
 
+// A kind, a and b that are no content's.
+#[derive(Clone, Copy, Debug, PartialEq, Eq)]
+pub struct NoContent;
+
 // The content of a kind, a and b: kinds are 1 to 5, and a b that the kind does not use is 0.
-#[tactic(auto, unfolding(crate::specs::Numbers::content_of))]
-pub fn content_of(kind: u32, a: u32, b: u32) -> ContentChoice
-    ensures { result ≡ content_of kind a b }
-{
-    match kind {
-        2 => ContentChoice::Content(Content::Commit(a, b)),
-        3 => ContentChoice::Content(Content::Update(a, b)),
-        1 => {
-            if b == 0 {
-                ContentChoice::Content(Content::Prepare(a))
-            } else {
-                ContentChoice::Refused
-            }
+impl TryFrom<[u32; 3]> for Content {
+    type Error = NoContent;
+
+    ghost try_from_gives = { λ p r. r ≡ ok_or (content_of (slice_index p 0) (slice_index p 1) (slice_index p 2)) (record {}) };
+
+    #[tactic(auto, unfolding(crate::specs::Numbers::content_of))]
+    fn try_from(p: [u32; 3]) -> Result<Content, NoContent> {
+        match p {
+            [1, a, 0] => Ok(Content::Prepare(a)),
+            [2, a, b] => Ok(Content::Commit(a, b)),
+            [3, a, b] => Ok(Content::Update(a, b)),
+            [4, a, 0] => Ok(Content::History(a)),
+            [5, a, 0] => Ok(Content::Switch(a)),
+            _ => Err(NoContent),
         }
-        4 => {
-            if b == 0 {
-                ContentChoice::Content(Content::History(a))
-            } else {
-                ContentChoice::Refused
-            }
-        }
-        5 => {
-            if b == 0 {
-                ContentChoice::Content(Content::Switch(a))
-            } else {
-                ContentChoice::Refused
-            }
-        }
-        _ => ContentChoice::Refused,
     }
 }
 
 // The kind, a and b of a content.
-pub fn numbers_of_content(c: Content) -> [u32; 3]
-    ensures { result ≡ content_numbers c }
-{
-    match c {
-        Content::Prepare(a) => [1, a, 0],
-        Content::Commit(a, b) => [2, a, b],
-        Content::Update(a, b) => [3, a, b],
-        Content::History(a) => [4, a, 0],
-        Content::Switch(a) => [5, a, 0],
+impl From<Content> for [u32; 3] {
+    ghost from_gives = { λ c r. r ≡ content_numbers c };
+
+    fn from(c: Content) -> [u32; 3] {
+        match c {
+            Content::Prepare(a) => [1, a, 0],
+            Content::Commit(a, b) => [2, a, b],
+            Content::Update(a, b) => [3, a, b],
+            Content::History(a) => [4, a, 0],
+            Content::Switch(a) => [5, a, 0],
+        }
     }
 }
 
+// A number that is no kind's.
+#[derive(Clone, Copy, Debug, PartialEq, Eq)]
+pub struct NoKind;
+
 // The kind of a number: kinds are 1 to 8.
-#[tactic(auto, unfolding(crate::specs::Numbers::kind_of))]
-pub fn kind_of(n: u32) -> KindChoice
-    ensures { result ≡ kind_of n }
-{
-    match n {
-        1 => KindChoice::Kind(Kind::Submit),
-        2 => KindChoice::Kind(Kind::Issue),
-        3 => KindChoice::Kind(Kind::Deliver),
-        4 => KindChoice::Kind(Kind::Hand),
-        5 => KindChoice::Kind(Kind::Panic),
-        6 => KindChoice::Kind(Kind::Idle),
-        7 => KindChoice::Kind(Kind::Build),
-        8 => KindChoice::Kind(Kind::File),
-        _ => KindChoice::Refused,
+impl TryFrom<u32> for Kind {
+    type Error = NoKind;
+
+    ghost try_from_gives = { λ n r. r ≡ ok_or (kind_of n) (record {}) };
+
+    #[tactic(auto, unfolding(crate::specs::Numbers::kind_of))]
+    fn try_from(n: u32) -> Result<Kind, NoKind> {
+        match n {
+            1 => Ok(Kind::Submit),
+            2 => Ok(Kind::Issue),
+            3 => Ok(Kind::Deliver),
+            4 => Ok(Kind::Hand),
+            5 => Ok(Kind::Panic),
+            6 => Ok(Kind::Idle),
+            7 => Ok(Kind::Build),
+            8 => Ok(Kind::File),
+            _ => Err(NoKind),
+        }
     }
 }
 
 // The paper's number of a kind.
-pub fn number_of_kind(k: Kind) -> u32
-    ensures { result ≡ kind_number k }
-{
-    match k {
-        Kind::Submit => 1,
-        Kind::Issue => 2,
-        Kind::Deliver => 3,
-        Kind::Hand => 4,
-        Kind::Panic => 5,
-        Kind::Idle => 6,
-        Kind::Build => 7,
-        Kind::File => 8,
+impl From<Kind> for u32 {
+    ghost from_gives = { λ k n. n ≡ kind_number k };
+
+    fn from(k: Kind) -> u32 {
+        match k {
+            Kind::Submit => 1,
+            Kind::Issue => 2,
+            Kind::Deliver => 3,
+            Kind::Hand => 4,
+            Kind::Panic => 5,
+            Kind::Idle => 6,
+            Kind::Build => 7,
+            Kind::File => 8,
+        }
     }
 }
 
-// The paper's number of what is said of a kit.
-pub fn number_of_kit(k: KitAnswer) -> u32
-    ensures { result ≡ kit_number_of k }
+// The paper's number of what is said of a kit: 0 where it is accepted.
+pub fn number_of_kit(answer: Result<(), KitRefusal>) -> u32
+    ensures { result ≡ kit_number_of answer }
 {
-    match k {
-        KitAnswer::Accepted => 0,
-        KitAnswer::Cut => 1,
-        KitAnswer::Misspelled => 2,
-        KitAnswer::WrongSettings => 3,
-        KitAnswer::WrongEvent => 4,
-        KitAnswer::Excess => 5,
-        KitAnswer::NoRoom => 6,
-        KitAnswer::TooLong => 9,
+    match answer {
+        Ok(()) => 0,
+        Err(refusal) => u32::from(refusal),
     }
 }
 
-// The paper's number of what is said of an event.
-pub fn number_of_answer(a: Answer) -> u32
-    ensures { result ≡ answer_number a }
-{
-    match a {
-        Answer::Taken => 0,
-        Answer::AlreadySubmitted => 11,
-        Answer::SubmissionsFull => 12,
-        Answer::NotFaulty => 13,
-        Answer::CounterFull => 14,
-        Answer::NotIssued => 15,
-        Answer::ReceiverFaulty => 16,
-        Answer::TooLate => 17,
-        Answer::TooEarly => 18,
-        Answer::NotNext => 19,
-        Answer::WrongRoles => 20,
-        Answer::Unexpected => 21,
-        Answer::NotValid => 22,
-        Answer::FilesFull => 23,
-        Answer::CannotBuild => 24,
+// The paper's number of a kit's refusal.
+impl From<KitRefusal> for u32 {
+    ghost from_gives = { λ refusal n. n ≡ kit_refusal_number refusal };
+
+    fn from(refusal: KitRefusal) -> u32 {
+        match refusal {
+            KitRefusal::Cut => 1,
+            KitRefusal::Misspelled => 2,
+            KitRefusal::WrongSettings => 3,
+            KitRefusal::WrongEvent => 4,
+            KitRefusal::Excess => 5,
+            KitRefusal::NoRoom => 6,
+            KitRefusal::TooLong => 9,
+        }
+    }
+}
+
+// The paper's number of a refusal.
+impl From<Refusal> for u32 {
+    ghost from_gives = { λ refusal n. n ≡ refusal_number refusal };
+
+    fn from(refusal: Refusal) -> u32 {
+        match refusal {
+            Refusal::AlreadySubmitted => 11,
+            Refusal::SubmissionsFull => 12,
+            Refusal::NotFaulty => 13,
+            Refusal::CounterFull => 14,
+            Refusal::NotIssued => 15,
+            Refusal::ReceiverFaulty => 16,
+            Refusal::TooLate => 17,
+            Refusal::TooEarly => 18,
+            Refusal::NotNext => 19,
+            Refusal::WrongRoles => 20,
+            Refusal::Unexpected => 21,
+            Refusal::NotValid => 22,
+            Refusal::FilesFull => 23,
+            Refusal::CannotBuild => 24,
+        }
     }
 }
 
@@ -330,77 +355,35 @@ pub fn number_of_answer(a: Answer) -> u32
 pub fn next_mark(mark: u32, request: u32) -> u32
     ensures { result ≡ next_mark mark request }
 {
-    let twice = std::num::wrapping_add_u32(mark, mark);
-    std::num::wrapping_add_u32(twice, request)
+    mark.wrapping_add(mark).wrapping_add(request)
 }
 
 // ---- small functions of numbers and lists
 
-// A number as an index.
-pub fn index(n: u32) -> usize
-    ensures { result ≡ n }
-{
-    n as usize
-}
-
-// A number of 32 bits as one of 64.
-pub fn wide(n: u32) -> u64
-    ensures { result ≡ n }
-{
-    n as u64
-}
-
-// A count as a number of 64 bits.
-pub fn long(n: usize) -> u64
-    ensures { result ≡ n }
-{
-    n as u64
-}
-
-// The lesser of two counts.
-pub fn lesser(a: usize, b: usize) -> usize
-    ensures { result ≡ min a b }
-{
-    if a < b {
-        return a;
-    }
-    b
-}
-
-// Whether a table's number marks an active replica.
+// Whether a table's number marks an active replica. A function for each of the two words: one that is given the numbers would be no plainer.
 pub fn marks_active(n: u32) -> bool
     ensures { result ≡ marks_active n }
 {
-    if n == 1 {
-        return true;
-    }
-    n == 3
+    matches!(n, 1 | 3)
 }
 
 // Whether a table's number marks a faulty replica.
 pub fn marks_faulty(n: u32) -> bool
     ensures { result ≡ marks_faulty n }
 {
-    if n == 2 {
-        return true;
-    }
-    n == 3
+    matches!(n, 2 | 3)
 }
 
-// Whether the first n of a list hold a request. The newest is looked at first: a repeated request is nearly always a client's second try.
-pub fn holds(list: &Requests, n: usize, request: u32) -> bool
-    ensures { result ≡ holds request (take n list.now) }
+// The first n of these requests, or all where there are fewer: memory is fixed, so what is in use of an array is counted beside it.
+pub fn first(list: &Requests, n: usize) -> &[u32]
+    ensures { result.now ≡ take n list.now }
 {
-    let all: &[u32] = list;
-    let mut i = all.len();
-    if n < i {
-        i = n;
-    }
-    while 0 < i {
-        i = i - 1;
-        if all[i] == request {
-            return true;
-        }
-    }
-    false
+    &list[..n.min(REQUESTS)]
+}
+
+// Whether a list holds a request. The newest is looked at first: a repeated request is nearly always a client's second try.
+pub fn holds(list: &[u32], request: u32) -> bool
+    ensures { result ≡ holds request list.now }
+{
+    list.iter().rev().any(|&noted| request == noted)
 }

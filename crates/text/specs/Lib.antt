@@ -1,2 +1,4 @@
+pub mod Page
+pub mod PageLaws
 pub mod Text
 pub mod TextLaws

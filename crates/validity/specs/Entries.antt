@@ -1,7 +1,10 @@
 -- Tests of the first n of a list, entry by entry: what a loop that goes up the list finds. Assumes nothing.
-use Rattle.std.specs.Prelude.{◌≡◌, refl, Bool, true, false, not, ◌&&◌, ◌||◌, List, [], ◌∷◌, ◌++◌, ℕ, zero, suc, ◌≤◌, ◌<◌, length, take, get_or, eqb}
-use Rattle.std.proofs.Common.{sym, ap, ◌∙◌, arith, take-suc, eqb-true, eq-eqb, ne_eqb}
+use Rattle.std.specs.Prelude.{◌≡◌, refl, Bool, true, false, not, ◌&&◌, ◌||◌, List, [], ◌∷◌, ◌++◌, ℕ, zero, suc, ◌≤◌, ◌<◌, length, take, get_or, eqb, ◌+◌}
+use Rattle.std.proofs.Common.{sym, ap, zero-add, add-one, ◌∙◌, arith, take-suc, eqb-true, eq-eqb, ne_eqb}
 use Rattle.std.proofs.lemmas.Bool.{eqb-false}
+use Rattle.std.specs.List.{list_all, enumerate_from}
+use Rattle.std.proofs.lemmas.List.Folds.{list_all_more}
+use Rattle.std.proofs.lemmas.List.FromFn.{length-enumerate_from, get_or-enumerate_from}
 use Rattle.terms.specs.Lists.{holds, distinct, all_of, all_below}
 use Rattle.terms.specs.ListLaws.{split, holds-snoc}
 
@@ -39,7 +42,18 @@ all_below-not (suc n) t i h e =
     and_none true = refl
     and_none false = refl
 
+-- tests that agree where they are asked
+pub all_below_ext : (n : ℕ) (s t : ℕ → Bool) → ((i : ℕ) → i < n → s i ≡ t i) → all_below n s ≡ all_below n t
+all_below_ext zero s t e = refl
+all_below_ext (suc n) s t e = rw (e n (omega arith), all_below_ext n s t (λ i h. e i (omega arith)))
+
 -- ---- one entry more, at the end
+
+pub taken_twice : (i j : ℕ) (l : List ℕ) → i ≤ j → take i (take j l) ≡ take i l
+taken_twice zero j l h = refl
+taken_twice (suc i) zero l h = absurd (omega arith)
+taken_twice (suc i) (suc j) [] h = refl
+taken_twice (suc i) (suc j) (x ∷ xs) h = ap (λ (m : List ℕ). x ∷ m) (taken_twice i j xs (omega arith))
 
 all_of-snoc : (l : List ℕ) (a : ℕ) (t : ℕ → Bool) → all_of (l ++ (a ∷ [])) t ≡ (t a && all_of l t)
 all_of-snoc [] a t = refl
@@ -72,3 +86,28 @@ module _ (l : List ℕ) where
   distinct_entries (suc n) h =
       ap distinct (take-suc l n 0 h) ∙ distinct_snoc (take n l) (get_or l n 0)
       ∙ ap (λ (b : Bool). not (holds (get_or l n 0) (take n l)) && b) (distinct_entries n (omega arith))
+
+-- ---- a chain over the first n entries, each with its place
+
+placed_entries : (n k : ℕ) (l : List ℕ) → take n (enumerate_from k l) ≡ enumerate_from k (take n l)
+placed_entries zero k l = refl
+placed_entries (suc n) k [] = refl
+placed_entries (suc n) k (x ∷ xs) = ap (λ (m : List (ℕ × ℕ)). (k, x) ∷ m) (placed_entries n (k + 1) xs)
+
+and_turn : (a b : Bool) → (a && b) ≡ (b && a)
+and_turn true true = refl
+and_turn true false = refl
+and_turn false true = refl
+and_turn false false = refl
+
+module _ (l : List ℕ) (p : ℕ × ℕ → Bool) where
+  taken_entries : (n : ℕ) → n ≤ length l → list_all p (take n (enumerate_from 0 l)) ≡ all_below n (λ i. p (i, get_or l i 0))
+  taken_entries zero h = refl
+  taken_entries (suc n) h =
+      let last : get_or (enumerate_from 0 l) n (0, 0) ≡ (n, get_or l n 0) = rw (get_or-enumerate_from 0 l n (0, 0) h, zero-add n) in
+      ap (λ (m : ℕ). list_all p (take m (enumerate_from 0 l))) (sym (add-one n))
+      ∙ list_all_more p (enumerate_from 0 l) n (0, 0) (rw (length-enumerate_from 0 l) h)
+      ∙ rw (last, taken_entries n (omega arith)) (and_turn (all_below n (λ i. p (i, get_or l i 0))) (p (n, get_or l n 0)))
+
+  pub all_entries : (n : ℕ) → n ≤ length l → list_all p (enumerate_from 0 (take n l)) ≡ all_below n (λ i. p (i, get_or l i 0))
+  all_entries n h = rw (← placed_entries n 0 l) (taken_entries n h)

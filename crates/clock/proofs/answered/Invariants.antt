@@ -4,8 +4,4 @@ use Rattle.clock.proofs.Turns.{Seeking}
 use Rattle.clock.proofs.answered.Given as goal
 
 abbrev pub invariant-loop-value : goal.invariant-loop-value
-invariant-loop-value l =
-    Seeking (answered_on l.table l.leader l.request l.ledger l.issued) (answered_at_on l.table l.leader l.request l.ledger l.issued) l.value
-
-abbrev pub decreases-loop-value : goal.decreases-loop-value
-decreases-loop-value l = l.value
+invariant-loop-value l = Seeking (answered_on l.roles l.request l.book) (answered_at_on l.roles l.request l.book) l.value

@@ -4,8 +4,8 @@ use Rattle.std.proofs.Common.{length, ◌-◌}
 use Rattle.kit.proofs.Checking.{Checking}
 use Rattle.kit.proofs.check.Given as goal
 
-abbrev pub invariant-loop-value : goal.invariant-loop-value
-invariant-loop-value l = Checking l.bytes l.judge l.at
+abbrev pub invariant-loop-found : goal.invariant-loop-found
+invariant-loop-found l = Checking l.bytes l.judge l.at
 
-abbrev pub decreases-loop-value : goal.decreases-loop-value
-decreases-loop-value l = length l.bytes - l.at
+abbrev pub decreases-loop-found : goal.decreases-loop-found
+decreases-loop-found l = length l.bytes - l.at

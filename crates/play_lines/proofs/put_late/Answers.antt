@@ -1,13 +1,12 @@
 -- The late tick, or none. Assumes nothing.
-use Rattle.text.specs.TextLaws.{then_lays, lays_as}
+use Rattle.text.specs.PageLaws.{then_puts}
 use Rattle.play_lines.specs.Lines.{late_text}
 use Rattle.play_lines.proofs.put_late.Goals as goal
 
-pub returns-then-late : goal.returns-then-late
+pub returns-in-Some : goal.returns-in-Some
 unfolding late_text
-returns-then-late c =
-    lays_as (then_lays c.put_word-a.ensures (then_lays c.put_next-b.ensures c.put_byte.ensures)) (rw c.if-late.true)
+returns-in-Some c = rw c.in-Some.is (then_puts c.put_word.ensures (then_puts c.put_next.ensures c.put_byte.ensures))
 
-pub returns : goal.returns
+pub returns-in-None : goal.returns-in-None
 unfolding late_text
-returns c = lays_as (then_lays c.put_word-a.ensures c.put_word.ensures) (rw c.if-late.false)
+returns-in-None c = rw c.in-None.is (then_puts c.put_word.ensures c.put_word-in-None.ensures)

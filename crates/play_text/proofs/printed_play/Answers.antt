@@ -1,23 +1,8 @@
--- `printed_play`: the bytes are accepted or refused. Assumes nothing.
-use Rattle.std.proofs.Common.{arith, eq-eqb, ne_eqb}
-use Rattle.text.specs.TextLaws.{lays_as}
+-- The text ends within the buffer. Assumes nothing.
+use Rattle.std.proofs.Common.{arith, rules}
 use Rattle.play_lines.specs.Whole.{ends_within}
 use Rattle.play_text.specs.Printed.{printed_text}
 use Rattle.play_text.proofs.printed_play.Goals as goal
 
-pub returns-then-number-eq0-clause-lays : goal.returns-then-number-eq0-clause-lays
-unfolding printed_text
-returns-then-number-eq0-clause-lays c =
-    lays_as c.put_played.ensures
-    (rw (← c.check-answer.ensures, ← c.number_of_kit-number.ensures, eq-eqb _ _ c.if-number-eq0.true, c.open-settings.ensures))
-
-pub returns-then-number-eq0-clause-counts : goal.returns-then-number-eq0-clause-counts
-returns-then-number-eq0-clause-counts c = ends_within c.put_played.ensures (omega arith)
-
-pub returns-clause-lays : goal.returns-clause-lays
-unfolding printed_text
-returns-clause-lays c =
-    lays_as c.put_kit.ensures (rw (← c.check-answer.ensures, ← c.number_of_kit-number.ensures, ne_eqb _ _ c.if-number-eq0.false))
-
 pub returns-clause-counts : goal.returns-clause-counts
-returns-clause-counts c = ends_within c.put_kit.ensures (omega arith)
+returns-clause-counts c = ends_within {s = c.args.out.now} {at = 0} {t = printed_text c.args.bytes.now} (search rules) (omega arith)

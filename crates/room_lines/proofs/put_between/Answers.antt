@@ -1,6 +1,6 @@
 -- A comma or nothing. Assumes nothing.
-use Rattle.text.specs.TextLaws.{lays_as, lays_none}
+use Rattle.text.specs.PageLaws.{puts_as, puts_none}
 use Rattle.room_lines.proofs.put_between.Goals as goal
 
-pub returns : goal.returns
-returns c = lays_as (lays_none _ _) (rw c.if-begun.false)
+pub returns-else-begun : goal.returns-else-begun
+returns-else-begun c = puts_as (puts_none _) (rw c.if-begun.false)

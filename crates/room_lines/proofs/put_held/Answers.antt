@@ -1,15 +1,14 @@
 -- The number, or a dash. Assumes nothing.
 use Rattle.std.proofs.Common.{ap}
 use Rattle.text.specs.Text.{decimal}
-use Rattle.text.specs.TextLaws.{then_lays, lays_as}
+use Rattle.text.specs.PageLaws.{then_puts, puts_as}
 use Rattle.room_lines.specs.Pieces.{held_text}
 use Rattle.room_lines.proofs.put_held.Goals as goal
 
-pub returns-then-holding : goal.returns-then-holding
+pub returns-in-Some : goal.returns-in-Some
 unfolding held_text
-returns-then-holding c =
-    lays_as (then_lays c.put_word-a.ensures (lays_as c.put_decimal.ensures (ap decimal c.wide.ensures))) (rw c.if-holding.true)
+returns-in-Some c = rw c.in-Some.is (then_puts c.put_word.ensures (puts_as c.put_decimal.ensures (ap decimal c.from.ensures)))
 
-pub returns : goal.returns
+pub returns-in-None : goal.returns-in-None
 unfolding held_text
-returns c = lays_as (then_lays c.put_word-a.ensures c.put_byte.ensures) (rw c.if-holding.false)
+returns-in-None c = rw c.in-None.is (then_puts c.put_word.ensures c.put_byte.ensures)

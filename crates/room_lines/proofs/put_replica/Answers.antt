@@ -1,9 +1,14 @@
 -- The record that is shown and the list that is settled. Assumes nothing.
-use Rattle.text.specs.TextLaws.{lays_as}
-use Rattle.room.specs.Settled.{settled_shown}
+use Rattle.std.proofs.Common.{arith, true, ◌<◌, length}
+use Rattle.text.specs.PageLaws.{puts_as}
+use Rattle.replica.specs.Record.{fresh_record}
+use Rattle.play_lines.specs.LinesLaws.{get_d_any}
 use Rattle.room_lines.specs.RoomLines.{replica_line}
 use Rattle.room_lines.proofs.put_replica.Goals as goal
 
 pub returns : goal.returns
-unfolding replica_line settled_shown
-returns c = lays_as c.put_record.ensures (rw (c.settled_of-settled.ensures, c.shown-shown.ensures))
+unfolding replica_line
+returns c =
+    let long : c.args.x < length c.args.replicas.now = omega (arith, c.told-replicas) in
+    puts_as c.put_record.ensures
+    (rw (c.settled_of-settled.ensures, c.shown-shown.ensures, get_d_any c.args.replicas.now c.args.x _ (fresh_record true) long))

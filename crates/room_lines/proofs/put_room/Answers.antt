@@ -1,11 +1,8 @@
 -- The parts in their order. Assumes nothing.
-use Rattle.text.specs.TextLaws.{then_lays}
-use Rattle.room_lines.specs.RoomLines.{lines_of_room}
+use Rattle.text.specs.PageLaws.{then_puts}
+use Rattle.room_lines.specs.RoomLines.{history_lines, counter_lines, replica_lines, lines_of_room}
 use Rattle.room_lines.proofs.put_room.Goals as goal
 
 pub returns : goal.returns
-unfolding lines_of_room
-returns c =
-    then_lays c.put_event-a.ensures
-    (then_lays c.put_submitted-b.ensures
-    (then_lays c.put_histories-c.ensures (then_lays c.put_counters-d.ensures c.put_replicas.ensures)))
+unfolding history_lines counter_lines replica_lines lines_of_room
+returns c = then_puts c.put_event.ensures (then_puts c.put_submitted.ensures (then_puts c.put_all.ensures (then_puts c.put_all-2.ensures c.put_all-3.ensures)))

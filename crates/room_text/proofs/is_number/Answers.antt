@@ -1,18 +1,14 @@
--- `is_number`: a byte that is no digit; the end. Assumes nothing.
-use Rattle.std.proofs.Common.{sym, ◌∙◌}
+-- `is_number`: a byte that is no digit; no byte at all. Assumes nothing.
+use Rattle.std.proofs.Common.{length}
 use Rattle.room_text.specs.Asked.{is_number}
-use Rattle.room_text.specs.AskedLaws.{digits_from, digits_end}
+use Rattle.room_text.specs.AskedLaws.{digits_all, some_byte}
 use Rattle.room_text.proofs.is_number.Goals as goal
 
-pub returns-then-not-is_digit : goal.returns-then-not-is_digit
+pub returns-then-all_digits : goal.returns-then-all_digits
 unfolding is_number
-returns-then-not-is_digit c =
-    let s = c.loop-i in
-    let bad = sym c.is_digit.ensures ∙ c.if-not-is_digit.true in
-    rw (s.invariant ∙ digits_from c.args.word.now s.i c.loop-i-test.true, bad)
+returns-then-all_digits c =
+    rw (c.is_empty.ensures, ← digits_all c.args.word.now, ← c.all_digits.ensures, c.if-all_digits.true) (some_byte (length c.args.word.now))
 
-pub returns : goal.returns
+pub returns-else-all_digits : goal.returns-else-all_digits
 unfolding is_number
-returns c =
-    let s = c.loop-i in
-    rw (s.invariant ∙ digits_end c.args.word.now s.i c.loop-i-test.false)
+returns-else-all_digits c = rw (← digits_all c.args.word.now, ← c.all_digits.ensures, c.if-all_digits.false)

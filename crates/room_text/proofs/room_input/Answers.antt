@@ -1,20 +1,9 @@
--- `room_input`: an argument is given or not. Assumes nothing.
-use Rattle.std.proofs.Common.{arith}
-use Rattle.text.specs.TextLaws.{lays_as}
+-- The text ends within the buffer. Assumes nothing.
+use Rattle.std.specs.Option.{option_copied}
+use Rattle.std.proofs.Common.{arith, rules}
 use Rattle.play_lines.specs.Whole.{ends_within}
 use Rattle.room_text.specs.RoomPrinted.{program_room}
 use Rattle.room_text.proofs.room_input.Goals as goal
 
-pub returns-then-given-clause-lays : goal.returns-then-given-clause-lays
-unfolding program_room
-returns-then-given-clause-lays c = lays_as c.asked_room.ensures (rw c.if-given.true)
-
-pub returns-then-given-clause-counts : goal.returns-then-given-clause-counts
-returns-then-given-clause-counts c = ends_within c.asked_room.ensures (omega arith)
-
-pub returns-clause-lays : goal.returns-clause-lays
-unfolding program_room
-returns-clause-lays c = lays_as c.input_room.ensures (rw (c.if-given.false, c.open-settings.ensures))
-
 pub returns-clause-counts : goal.returns-clause-counts
-returns-clause-counts c = ends_within c.input_room.ensures (omega arith)
+returns-clause-counts c = ends_within {s = c.args.out.now} {at = 0} {t = program_room c.args.bytes.now (option_copied c.args.word)} (search rules) (omega arith)

@@ -5,7 +5,7 @@
 use Rattle.std.proofs.Common.{◌≡◌, refl, ◌≢◌, List, ◌∙◌, arith, ℕ, zero, suc, ◌<◌, eqb-true, ne_eqb}
 use Rattle.std.proofs.Math.Path.{sym, ap}
 use Rattle.std.proofs.Math.Bool.{true, false}
-use Rattle.std.proofs.Math.Option.{Option, none, some}
+use Rattle.std.specs.Prelude.{Option, None, Some, Err}
 use Rattle.std.proofs.Math.Dec.{eqb}
 use Rattle.terms.specs.Limits.{ag, up}
 use Rattle.terms.specs.Lists.{nth, is_some}
@@ -15,7 +15,8 @@ use Rattle.terms.specs.declared.Content.{Content}
 use Rattle.terms.specs.declared.Content.TheVariants.{History}
 use Rattle.terms.specs.declared.Condition.TheVariants.{Running, Halted}
 use Rattle.terms.specs.declared.Event.TheVariants.{Hand, Panic}
-use Rattle.terms.specs.declared.Answer.TheVariants.{Taken, NotValid}
+use Rattle.terms.specs.Numbers.{Taken}
+use Rattle.terms.specs.declared.Refusal.TheVariants.{NotValid}
 use Rattle.rules.specs.Table.{is_marked_faulty, switch_leader}
 use Rattle.rules.proofs.Laws.TableLaws.{Roles, roles}
 use Rattle.rules.specs.Room.{Room, Replica, Filing, fresh_room, fresh_replica, with_replica, with_condition, issue, hold}
@@ -48,7 +49,7 @@ panicking gap to list = record { gap = gap; event = Panic to; requests = list }
 
 -- HISTORY of this number stands at value v of the switch leader's counter of this name
 abbrev pub HistoryAt : Kit → Room → ℕ → ℕ → ℕ → Type 0
-HistoryAt kit r name v number = content_at (r.counter (switch_leader kit) name) v ≡ some (History number)
+HistoryAt kit r name v number = content_at (r.counter (switch_leader kit) name) v ≡ Some (History number)
 
 -- a history's own two values: p on ag and q on up
 abbrev pub OwnValues : Kit → Room → ℕ → ℕ → ℕ → Type 0
@@ -62,7 +63,7 @@ IssuedAt kit r name v = is_some (content_at (r.counter (switch_leader kit) name)
 pub record Receiver (kit : Kit) (r : Room) (to : ℕ) : Type 0 where
   pub not_builder : to ≢ switch_leader kit
   pub is_halted : (r.replica to).condition ≡ Halted
-  pub holds-none : (r.replica to).held ≡ none
+  pub holds-none : (r.replica to).held ≡ None
 
 -- history `number` = (j, k, list) was built by event m: what holds when n events, m among them, have been played
 pub record Believed (kit : Kit) (n number : ℕ) (filing : Filing) : Type 0 where
@@ -76,33 +77,33 @@ pub record Believed (kit : Kit) (n number : ℕ) (filing : Filing) : Type 0 wher
       → (to : ℕ) → Receiver kit (after kit n) to → (gap : ℕ) (list : List ℕ) → (step kit (after kit n) (handing gap p q to list)).answer ≡ Taken
   pub is_held : (p q : ℕ) → OwnValues kit (after kit n) number p q
       → (to : ℕ) → Receiver kit (after kit n) to → (gap : ℕ) (list : List ℕ)
-      → ((step kit (after kit n) (handing gap p q to list)).room.replica to).held ≡ some number
+      → ((step kit (after kit n) (handing gap p q to list)).room.replica to).held ≡ Some number
   -- so where such a hand is event n of the kit itself, it is answered 0
   pub is_answered : (p q : ℕ) → OwnValues kit (after kit n) number p q
-      → (to : ℕ) → Receiver kit (after kit n) to → (gap : ℕ) (list : List ℕ) → nth kit.events n ≡ some (handing gap p q to list)
-      → answer kit n ≡ some Taken
+      → (to : ℕ) → Receiver kit (after kit n) to → (gap : ℕ) (list : List ℕ) → nth kit.events n ≡ Some (handing gap p q to list)
+      → answer kit n ≡ Some Taken
   -- one that still runs takes it as soon as a PANIC has reached it
   pub halts_first : (p q : ℕ) → OwnValues kit (after kit n) number p q
       → (to : ℕ) → to ≢ switch_leader kit → ((after kit n).replica to).condition ≡ Running → (gap gap₁ : ℕ) (list list₁ : List ℕ)
       → (step kit (step kit (after kit n) (panicking gap to list)).room (handing gap₁ p q to list₁)).answer ≡ Taken
   -- any other two issued values of the two counters are answered 22
   pub others_refused : (p q : ℕ) → IssuedAt kit (after kit n) ag p → IssuedAt kit (after kit n) up q → (p ≡ suc filing.k → q ≡ suc filing.j → ⊥)
-      → (to : ℕ) → Receiver kit (after kit n) to → (gap : ℕ) (list : List ℕ) → (step kit (after kit n) (handing gap p q to list)).answer ≡ NotValid
+      → (to : ℕ) → Receiver kit (after kit n) to → (gap : ℕ) (list : List ℕ) → (step kit (after kit n) (handing gap p q to list)).answer ≡ Err NotValid
 
 pub record SwitchLeaderBelieved (kit : Kit) : Type 0 where
   -- the history that event 7 built is believed from then on
   pub believed : (m number : ℕ) (filing : Filing) → BuiltAt kit m number filing → (n : ℕ) → m < n → Believed kit n number filing
   -- where the switch leader is correct, whatever a correct replica holds event 7 filed before; and there is one such event at most
-  pub no_other : Correct kit (switch_leader kit) → (n x h : ℕ) → Correct kit x → ((after kit n).replica x).held ≡ some h → BuiltBefore kit n h
+  pub no_other : Correct kit (switch_leader kit) → (n x h : ℕ) → Correct kit x → ((after kit n).replica x).held ≡ Some h → BuiltBefore kit n h
   pub one_build : (m n g h : ℕ) (a b : Filing) → BuiltAt kit m g a → BuiltAt kit n h b → (m ≡ n) × (g ≡ h) × (a ≡ b)
   -- a faulty one never holds any
-  pub faulty_none : (n x : ℕ) → is_marked_faulty kit x ≡ true → ((after kit n).replica x).held ≡ none
+  pub faulty_none : (n x : ℕ) → is_marked_faulty kit x ≡ true → ((after kit n).replica x).held ≡ None
 
 -- ---- the first half
 
 -- a HISTORY that is last on its counter stands at one value
-one_place : (held : Option ℕ) (issued : List Content) → HistoryLast held issued → (p i h : ℕ) → content_at issued p ≡ some (History h)
-    → nth issued i ≡ some (History h) → p ≡ suc i
+one_place : (held : Option ℕ) (issued : List Content) → HistoryLast held issued → (p i h : ℕ) → content_at issued p ≡ Some (History h)
+    → nth issued i ≡ Some (History h) → p ≡ suc i
 one_place held issued w zero i h e d = no_way (cc e)
 one_place held issued w (suc n) i h e d = omega (arith, (w n h e).0, (w i h d).0)
 
@@ -128,7 +129,7 @@ module _ (kit : Kit) (good : GoodKit kit) {m number : ℕ} {filing : Filing} (b 
     sound_now : Sound kit (after kit n) number filing
     sound_now = sound_grows kit (after_grows kit (suc m) n later) sound_then
 
-    filed_now : nth (after kit n).histories number ≡ some filing
+    filed_now : nth (after kit n).histories number ≡ Some filing
     filed_now = (after_grows kit (suc m) n later).filings _ _ b.is_filed_lem
 
     abbrev builder : Replica
@@ -170,13 +171,13 @@ module _ (kit : Kit) (good : GoodKit kit) {m number : ℕ} {filing : Filing} (b 
       passed_values : is_valid_filing kit r p q h (nth r.histories h) ≡ true → (p ≡ suc filing.k) × (q ≡ suc filing.j)
       unfolding is_valid
       passed_values passed =
-          let there : is_valid_filing kit r p q number (some filing) ≡ true = rw (passed_number passed, grows.filings _ _ filed_now) at passed in
+          let there : is_valid_filing kit r p q number (Some filing) ≡ true = rw (passed_number passed, grows.filings _ _ filed_now) at passed in
           let ag-value : eqb p (suc filing.k) ≡ true = search (and_l, and_r) in
           let up-value : eqb q (suc filing.j) ≡ true = search (and_l, and_r) depth 7 in
           (eqb-true p (suc filing.k) ag-value, eqb-true q (suc filing.j) up-value)
 
     other_step : (p q : ℕ) → IssuedAt kit (after kit n) ag p → IssuedAt kit (after kit n) up q → (p ≡ suc filing.k → q ≡ suc filing.j → ⊥)
-        → (to : ℕ) → Receiver kit (after kit n) to → (gap : ℕ) (list : List ℕ) → (step kit (after kit n) (handing gap p q to list)).answer ≡ NotValid
+        → (to : ℕ) → Receiver kit (after kit n) to → (gap : ℕ) (list : List ℕ) → (step kit (after kit n) (handing gap p q to list)).answer ≡ Err NotValid
     unfolding step on_event concerned decide decide_hand decide_hold refuse_if
     other_step p q ip iq other to w gap list =
         let r = tick kit (after kit n) gap in
@@ -186,7 +187,7 @@ module _ (kit : Kit) (good : GoodKit kit) {m number : ℕ} {filing : Filing} (b 
         let fails : is_valid_filing kit r p q h (nth r.histories h) ≡ false = not_true_false (is_valid_filing kit r p q h (nth r.histories h))
         (λ passed. let v = passed_values (tick_grows kit (after kit n) gap) inv p q h passed in other v.0 v.1) in
         let halted : (r.replica to).condition ≡ Halted = ap (λ (g : ℕ → Replica). (g to).condition) t.replica ∙ w.is_halted in
-        let free : (r.replica to).held ≡ none = ap (λ (g : ℕ → Replica). (g to).held) t.replica ∙ w.holds-none in
+        let free : (r.replica to).held ≡ None = ap (λ (g : ℕ → Replica). (g to).held) t.replica ∙ w.holds-none in
         let on_ag : is_some (content_at (r.counter (switch_leader kit) ag) p) ≡ true = rw t.counter ip in
         let on_up : is_some (content_at (r.counter (switch_leader kit) up) q) ≡ true = rw t.counter iq in
         rw (fails, halted, on_ag, on_up, free, ne_eqb to (switch_leader kit) w.not_builder)
@@ -222,7 +223,7 @@ module _ (kit : Kit) (good : GoodKit kit) {m number : ℕ} {filing : Filing} (b 
               ap (λ (o : Outcome). (o.room.replica to).held) (hand_step p q to gap list (grows_refl (after kit n)) own w)
               ∙ ap (λ (z : Replica). z.held) (replica_same r to (hold (r.replica to) number));
           is_answered = λ p q own to w gap list e.
-              rw e (ap (λ (o : Outcome). some o.answer) (hand_step p q to gap list (grows_refl (after kit n)) own w));
+              rw e (ap (λ (o : Outcome). Some o.answer) (hand_step p q to gap list (grows_refl (after kit n)) own w));
           halts_first = λ p q own to other runs gap gap₁ list list₁.
               ap (λ (o : Outcome). o.answer)
               (hand_step p q to gap₁ list₁ (step_grows kit (after kit n) (panicking gap to list)) own (panicked to gap list other runs));
@@ -233,12 +234,12 @@ module _ (kit : Kit) (good : GoodKit kit) {m number : ℕ} {filing : Filing} (b 
 
 -- in one room: what a correct replica holds, a correct switch leader holds, since HISTORY of it stands on its ag
 holds_with_it : (kit : Kit) → Roles kit → (r : Room) → Invariant kit r → Correct kit (switch_leader kit) → (x h : ℕ) → Correct kit x
-    → (r.replica x).held ≡ some h → (r.replica (switch_leader kit)).held ≡ some h
+    → (r.replica x).held ≡ Some h → (r.replica (switch_leader kit)).held ≡ Some h
 holds_with_it kit roles r a fs x h fx e =
     let backed = (a.part x fx).common.held_backed h e in
     (((a.part (switch_leader kit) fs).active roles.switch_active).ag_history backed.filing.k h backed.announced).1
 
-faulty_holds-none : (kit : Kit) (n x : ℕ) → is_marked_faulty kit x ≡ true → ((after kit n).replica x).held ≡ none
+faulty_holds-none : (kit : Kit) (n x : ℕ) → is_marked_faulty kit x ≡ true → ((after kit n).replica x).held ≡ None
 unfolding after play fresh_room fresh_replica
 faulty_holds-none kit n x e = ap (λ (p : Replica). p.held) ((after_keeps kit 0 n (omega arith)).untouched x (rw e))
 

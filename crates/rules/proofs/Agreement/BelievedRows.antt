@@ -1,8 +1,7 @@
 -- That nothing in Believed is empty: plays of good kits, computed from the rules. In `small` event 7 builds with j below k, and its history is handed at
 -- once, and later to one that halts later; another value is answered 22. In `lying` the switch leader is faulty, and a correct replica holds what event 8
 -- filed: the second half says "where the switch leader is correct" for a reason. Assumes nothing.
-use Rattle.std.specs.Prelude.{◌≡◌, refl, true, List, [], ◌∷◌}
-use Rattle.std.proofs.Math.Option.{some}
+use Rattle.std.specs.Prelude.{◌≡◌, refl, true, List, [], ◌∷◌, Some, Err}
 use Rattle.std.proofs.Common.{arith}
 use Rattle.grammar.specs.Operands.{filed_of}
 use Rattle.grammar.specs.Parser.{parse}
@@ -14,7 +13,8 @@ use Rattle.terms.specs.declared.Content.TheVariants.{History}
 use Rattle.terms.specs.declared.Condition.TheVariants.{Running}
 use Rattle.terms.specs.declared.Event.{Event}
 use Rattle.terms.specs.declared.Event.TheVariants.{Submit, Issue, Deliver, Hand, Panic, Build, File}
-use Rattle.terms.specs.declared.Answer.TheVariants.{Taken, NotValid, CannotBuild}
+use Rattle.terms.specs.Numbers.{Taken}
+use Rattle.terms.specs.declared.Refusal.TheVariants.{NotValid, CannotBuild}
 use Rattle.rules.specs.Table.{is_marked_faulty, switch_leader}
 use Rattle.rules.specs.Room.{Filing}
 use Rattle.rules.specs.Play.{after, answer}
@@ -68,21 +68,21 @@ pub record BelievedRows : Type 0 where
   pub values : OwnValues small (after small 10) 0 3 2
   -- 2 could be handed it at once, and was: 0
   pub at_once_lem : Receiver small (after small 10) 2
-  pub taken_at_once : answer small 10 ≡ some Taken
+  pub taken_at_once : answer small 10 ≡ Some Taken
   -- 3 still ran then; one request more was submitted, 3 halted: 22 with up value 1, which is an UPDATE, 0 with its own two, and it holds it
   pub runs_then : ((after small 10).replica 3).condition ≡ Running
   pub halts_later : Receiver small (after small 13) 3
   pub submitted_later : (after small 13).submitted ≡ 7 ∷ 5 ∷ 9 ∷ 8 ∷ []
-  pub other_value : answer small 13 ≡ some NotValid
-  pub taken_later : answer small 14 ≡ some Taken
-  pub holds_it : ((after small 15).replica 3).held ≡ some 0
+  pub other_value : answer small 13 ≡ Some (Err NotValid)
+  pub taken_later : answer small 14 ≡ Some Taken
+  pub holds_it : ((after small 15).replica 3).held ≡ Some 0
   -- the second half's premise is met there
   pub small_correct : (Correct small 1) × (Correct small 3)
   -- and is needed: by a faulty switch leader, which cannot build, a correct replica is made to hold another history
   pub lying_kit : GoodKit lying
   pub lying_leads : (switch_leader lying ≡ 1) × (is_marked_faulty lying 1 ≡ true)
-  pub holds_another : (Correct lying 2) × (((after lying 6).replica 2).held ≡ some 0)
-  pub cannot_build : answer lying 5 ≡ some CannotBuild
+  pub holds_another : (Correct lying 2) × (((after lying 6).replica 2).held ≡ Some 0)
+  pub cannot_build : answer lying 5 ≡ Some (Err CannotBuild)
 
 pub believed_rows : BelievedRows
 unfolding computing

@@ -2,7 +2,7 @@
 -- nothing else. Moments and places of events are counted from 0. Assumes nothing.
 use Rattle.std.proofs.Common.{◌≡◌, List, ◌∙◌, ⊎_elim, arith, take_all, ℕ, zero, suc, ◌<◌}
 use Rattle.std.proofs.Math.Path.{refl, sym, ap}
-use Rattle.std.proofs.Math.Option.{Option, none, some}
+use Rattle.std.specs.Prelude.{Option, None, Some, Ok, Err}
 use Rattle.std.proofs.Math.ListN.{length}
 use Rattle.terms.specs.Lists.{nth}
 use Rattle.terms.specs.ListLaws.{no_way, tri, nth-none, nth-snoc}
@@ -10,8 +10,9 @@ use Rattle.terms.specs.Kit.{Kit, Entry}
 use Rattle.terms.specs.declared.Event.{Event}
 use Rattle.terms.specs.declared.Event.TheVariants.{Build}
 use Rattle.terms.specs.declared.Act.{Act}
-use Rattle.terms.specs.declared.Decision.{Decision}
-use Rattle.terms.specs.declared.Answer.TheVariants.{Taken}
+use Rattle.terms.specs.Numbers.{Decision}
+use Rattle.terms.specs.declared.Deed.{Deed}
+use Rattle.terms.specs.Numbers.{Taken}
 use Rattle.rules.specs.Table.{switch_leader}
 use Rattle.rules.specs.Room.{Room, Replica, Filing, fresh_room, fresh_replica, with_replica, with_history, issue}
 use Rattle.rules.proofs.Laws.RoomLaws.{replica_other}
@@ -34,10 +35,10 @@ building gap list = record { gap = gap; event = Build; requests = list }
 pub record BuiltAt (kit : Kit) (m number : ℕ) (filing : Filing) : Type 0 where
   pub gap : ℕ
   pub list : List ℕ
-  pub is_event : nth kit.events m ≡ some (building gap list)
-  pub was_taken : answer kit m ≡ some Taken
+  pub is_event : nth kit.events m ≡ Some (building gap list)
+  pub was_taken : answer kit m ≡ Some Taken
   pub numbered : length (after kit m).histories ≡ number
-  pub is_filed_lem : nth (after kit (suc m)).histories number ≡ some filing
+  pub is_filed_lem : nth (after kit (suc m)).histories number ≡ Some filing
 
 -- one of the first n events did
 pub record BuiltBefore (kit : Kit) (n number : ℕ) : Type 0 where
@@ -61,7 +62,7 @@ one_build kit m n g h a b one two =
 -- ---- what it found and what it left
 
 module _ (kit : Kit) (r : Room) where
-  pub built_filed : nth (after_build r (switch_leader kit) (built kit r)).histories (length r.histories) ≡ some (built kit r)
+  pub built_filed : nth (after_build r (switch_leader kit) (built kit r)).histories (length r.histories) ≡ Some (built kit r)
   unfolding after_build issue with_replica with_history
   built_filed = nth-snoc r.histories (built kit r)
 
@@ -73,7 +74,7 @@ module _ {kit : Kit} {m number : ℕ} {filing : Filing} (b : BuiltAt kit m numbe
   pub could_build : CanBuild kit found b.list
   unfolding answer step
   could_build =
-      let z : some (on_event kit found Build b.list).answer ≡ some Taken = rw b.is_event at b.was_taken in
+      let z : Some (on_event kit found Build b.list).answer ≡ Some Taken = rw b.is_event at b.was_taken in
       taken_can kit found b.list (cc z)
 
   pub left : after kit (suc m) ≡ after_build found (switch_leader kit) (built kit found)
@@ -104,20 +105,20 @@ module _ (kit : Kit) where
     is_build : e ≡ Build
     is_taken : (on_event kit r e list).answer ≡ Taken
     numbered : length r.histories ≡ h
-    is_filed_lem : nth (on_event kit r e list).room.histories h ≡ some (built kit r)
+    is_filed_lem : nth (on_event kit r e list).room.histories h ≡ Some (built kit r)
 
   carried_builds
       : (r : Room) (e : Event) (x : ℕ) (list : List ℕ) (h : ℕ) (d : Decision) → decide kit r e ≡ d → x ≡ concerned kit e → Tested kit r e x d
-      → holding r ≡ none → holding (carried_out kit r x d list) ≡ some h → Builds r e list h
+      → holding r ≡ None → holding (carried_out kit r x d list) ≡ Some h → Builds r e list h
   unfolding carried_out after_file with_history on_event built
-  carried_builds r e x list h (Decision.Refuse answer) is at t free now = no_way (cc (free, now))
-  carried_builds r e x list h (Decision.Submit request) is at t free now = no_way (cc ((calm_submit kit r request).held_same (switch_leader kit), free, now))
-  carried_builds r e x list h (Decision.Issue y name content) is at t free now =
+  carried_builds r e x list h (Err answer) is at t free now = no_way (cc (free, now))
+  carried_builds r e x list h (Ok (Deed.Submit request)) is at t free now = no_way (cc ((calm_submit kit r request).held_same (switch_leader kit), free, now))
+  carried_builds r e x list h (Ok (Deed.Issue y name content)) is at t free now =
       no_way (cc ((calm_faulty_issue kit r e x y name content t).held_same (switch_leader kit), free, now))
-  carried_builds r e x list h (Decision.Act act) is at t free now = no_way (cc (holding_acted r e x act t, free, now))
-  carried_builds r e x list h Decision.Idle is at t free now = no_way (cc (free, now))
-  carried_builds r e x list h (Decision.Build j k) is at t free now =
-      let was : holding (after_build r (switch_leader kit) (built kit r)) ≡ some h = rw (t.leads, t.counted_j, t.counted_k) at now in
+  carried_builds r e x list h (Ok (Deed.Act act)) is at t free now = no_way (cc (holding_acted r e x act t, free, now))
+  carried_builds r e x list h (Ok Deed.Idle) is at t free now = no_way (cc (free, now))
+  carried_builds r e x list h (Ok (Deed.Build j k)) is at t free now =
+      let was : holding (after_build r (switch_leader kit) (built kit r)) ≡ Some h = rw (t.leads, t.counted_j, t.counted_k) at now in
       let n : length r.histories ≡ h = cc (was, built_held kit r) in
       record {
         is_build = t.event;
@@ -125,14 +126,14 @@ module _ (kit : Kit) where
         numbered = n;
         is_filed_lem = rw (is, ← at, t.leads, t.counted_j, t.counted_k, ← n) (built_filed kit r);
       }
-  carried_builds r e x list h (Decision.File j k) is at t free now = no_way (cc (free, now))
+  carried_builds r e x list h (Ok (Deed.File j k)) is at t free now = no_way (cc (free, now))
 
-  event_builds : (r : Room) (e : Event) (list : List ℕ) (h : ℕ) → holding r ≡ none → holding (on_event kit r e list).room ≡ some h → Builds r e list h
+  event_builds : (r : Room) (e : Event) (list : List ℕ) (h : ℕ) → holding r ≡ None → holding (on_event kit r e list).room ≡ Some h → Builds r e list h
   unfolding on_event
   event_builds r e list h free now = carried_builds r e (concerned kit e) list h (decide kit r e) refl refl (tested kit r e) free now
 
 -- a moment past the last event is the moment of the last
-after_end : (kit : Kit) (n : ℕ) → nth kit.events n ≡ none → after kit (suc n) ≡ after kit n
+after_end : (kit : Kit) (n : ℕ) → nth kit.events n ≡ None → after kit (suc n) ≡ after kit n
 unfolding after
 after_end kit n e =
     let all = nth-none kit.events n e in
@@ -143,7 +144,7 @@ module _ (kit : Kit) (h : ℕ) where
   later_built n b = record { m = b.m; earlier = omega (arith, b.earlier); filing = b.filing; built_at = b.built_at }
 
   -- it took hold of it by event n
-  built_now : (n : ℕ) (d : Entry) → nth kit.events n ≡ some d → holding kit (after kit (suc n)) ≡ some h → holding kit (after kit n) ≡ none
+  built_now : (n : ℕ) (d : Entry) → nth kit.events n ≡ Some d → holding kit (after kit (suc n)) ≡ Some h → holding kit (after kit n) ≡ None
       → BuiltBefore kit (suc n) h
   unfolding step answer
   built_now n d z e free =
@@ -159,27 +160,27 @@ module _ (kit : Kit) (h : ℕ) where
           gap = d.gap;
           list = d.requests;
           is_event = rw (← b.is_build) z;
-          was_taken = rw z (ap some b.is_taken);
+          was_taken = rw z (ap Some b.is_taken);
           numbered = sym (ap length t.histories) ∙ b.numbered;
           is_filed_lem = rw s b.is_filed_lem;
         };
       }
 
   -- or before it
-  built_next : (n : ℕ) → (holding kit (after kit n) ≡ some h → BuiltBefore kit n h) → holding kit (after kit (suc n)) ≡ some h → BuiltBefore kit (suc n) h
+  built_next : (n : ℕ) → (holding kit (after kit n) ≡ Some h → BuiltBefore kit n h) → holding kit (after kit (suc n)) ≡ Some h → BuiltBefore kit (suc n) h
   built_next n before e = here (nth kit.events n) refl
     where
-      was : (d : Entry) → nth kit.events n ≡ some d → (o : Option ℕ) → holding kit (after kit n) ≡ o → BuiltBefore kit (suc n) h
-      was d z none w = built_now n d z e w
-      was d z (some g) w =
+      was : (d : Entry) → nth kit.events n ≡ Some d → (o : Option ℕ) → holding kit (after kit n) ≡ o → BuiltBefore kit (suc n) h
+      was d z None w = built_now n d z e w
+      was d z (Some g) w =
           let k = rw (← (after_suc kit n d z)) at ((step_keeps kit (after kit n) d).held (switch_leader kit) g w) in
           later_built n (before (w ∙ sym k ∙ e))
 
       here : (o : Option Entry) → nth kit.events n ≡ o → BuiltBefore kit (suc n) h
-      here none z = later_built n (before (rw (after_end kit n z) at e))
-      here (some d) z = was d z (holding kit (after kit n)) refl
+      here None z = later_built n (before (rw (after_end kit n z) at e))
+      here (Some d) z = was d z (holding kit (after kit n)) refl
 
-  pub held_built : (n : ℕ) → holding kit (after kit n) ≡ some h → BuiltBefore kit n h
+  pub held_built : (n : ℕ) → holding kit (after kit n) ≡ Some h → BuiltBefore kit n h
   unfolding after play fresh_room fresh_replica
   held_built zero e = no_way (cc)
   held_built (suc n) e = built_next n (held_built n) e

@@ -1,8 +1,7 @@
 -- What the fall-back gives, at any two moments of a good kit's play: one history, closed lists that never change, and nothing lost that a correct
 -- replica had settled. Assumes nothing.
-use Rattle.std.specs.Prelude.{◌≡◌, refl, true, ℕ, ◌≤◌, length, leb}
+use Rattle.std.specs.Prelude.{◌≡◌, refl, true, ℕ, ◌≤◌, length, leb, Some}
 use Rattle.std.proofs.Common.{sym, ◌∙◌, arith, length-append, leb-true, leb-false}
-use Rattle.std.proofs.Math.Option.{some}
 use Rattle.terms.specs.Lists.{nth, Sub, ◌⊑◌}
 use Rattle.terms.specs.ListLaws.{split, sub_prefix}
 use Rattle.terms.specs.Kit.{Kit, GoodKit}
@@ -31,7 +30,7 @@ ClosedAt kit n p = is_closed ((after kit n).replica p).condition ≡ true
 pub record ClosedOn (kit : Kit) (n p : ℕ) : Type 0 where
   pub number : ℕ
   pub filing : Filing
-  pub filed : nth (after kit n).histories number ≡ some filing
+  pub filed : nth (after kit n).histories number ≡ Some filing
   pub is_list : settled_at kit n p ≡ filing.list
 
 pub record NothingLost (kit : Kit) : Type 0 where

@@ -2,7 +2,7 @@
 -- another active replica, up, sw; and for each what was tested gives what it asks (`next_prepared` … `next_switched`). Assumes nothing.
 use Rattle.std.proofs.Common.{◌≡◌, true, false, not, ◌&&◌, ◌≢◌, List, [], ◌∷◌, ◌++◌, get_or, eqb, ltb, leb, ◌∙◌, ℕ, suc, ◌-◌, ◌≤◌, ◌<◌, arith, ltb-true, ltb-false}
 use Rattle.std.proofs.Math.Path.{refl, sym, ap}
-use Rattle.std.proofs.Math.Option.{Option, none, some}
+use Rattle.std.specs.Prelude.{Option, None, Some}
 use Rattle.std.proofs.Math.ListN.{length}
 use borrow.Author.Tests.{eqb-false}
 use Rattle.terms.specs.Limits.{ag, up, sw}
@@ -34,7 +34,7 @@ use Rattle.rules.proofs.Laws.Tested.{Delivered, ToPrepare, ToCommit, ToKnownPair
 
 -- the end of an event on ag: x has record p, has issued `ags` and `ups`, and has settled c, and its count is d now
 module _ (kit : Kit) {r r₁ : Room} (x : ℕ) {p₀ : Replica} (p : Replica) {ags ups : List Content} (c d : ℕ) (a : Invariant kit r)
-    (v : Moved r r₁ x p₀ ags ups) (ax : is_active kit x ≡ true) (free : p.held ≡ none) (u₀ : is_running (r.replica x).condition ≡ true)
+    (v : Moved r r₁ x p₀ ags ups) (ax : is_active kit x ≡ true) (free : p.held ≡ None) (u₀ : is_running (r.replica x).condition ≡ true)
     (u₁ : is_running p.condition ≡ true) (ed : d ≡ settled_count kit x p (length ags)) (cm : Common kit r₁ p) (act₁ : Active kit r₁ x p ags ups c)
     (sub : Sub (settled_noted kit x (r.replica x) (ag_total r x)) (settled_noted kit x p (length ags))) where
   good₀ : is_faulty (r.replica x).condition ≡ false
@@ -92,7 +92,7 @@ prepare_grows kit x p n s v q ev =
 next_prepare : (kit : Kit) (r : Room) → Invariant kit r → (v x q : ℕ) → is_marked_faulty kit x ≡ false → is_active kit x ≡ true
     → x ≢ kit.leader → is_running (r.replica x).condition ≡ true
     → v ≡ suc ((r.replica x).accepted kit.leader ag)
-    → nth (r.counter kit.leader ag) ((r.replica x).accepted kit.leader ag) ≡ some (Prepare q) → holds q r.submitted ≡ true
+    → nth (r.counter kit.leader ag) ((r.replica x).accepted kit.leader ag) ≡ Some (Prepare q) → holds q r.submitted ≡ true
     → holds q (r.replica x).noted ≡ false
     → Next kit r (after_prepare kit r kit.leader v x q)
 unfolding after_prepare accept note
@@ -124,7 +124,7 @@ next_prepare kit r a v x q fx ax xl run ev ec es en =
     av : Active kit r x p (r.counter x ag) (r.counter x up) (settled_count kit x p n)
     av = loc.active ax
 
-    free : p.held ≡ none
+    free : p.held ≡ None
     free = loc.common.running_holds-none run
 
     sub : Sub (settled_noted kit x p n) (settled_noted kit x p₁ (length (r.counter x ag ++ (Commit q v ∷ []))))
@@ -134,8 +134,8 @@ next_prepare kit r a v x q fx ax xl run ev ec es en =
 
 next_commit : (kit : Kit) (r : Room) → Invariant kit r → (s v x b : ℕ) → is_marked_faulty kit x ≡ false → is_active kit x ≡ true → s ≢ kit.leader
     → is_running (r.replica x).condition ≡ true
-    → v ≡ suc ((r.replica x).accepted s ag) → nth (r.counter s ag) ((r.replica x).accepted s ag) ≡ some (Commit b v)
-    → nth (r.replica x).noted ((r.replica x).accepted s ag) ≡ some b → Next kit r (after_commit kit r s v x)
+    → v ≡ suc ((r.replica x).accepted s ag) → nth (r.counter s ag) ((r.replica x).accepted s ag) ≡ Some (Commit b v)
+    → nth (r.replica x).noted ((r.replica x).accepted s ag) ≡ Some b → Next kit r (after_commit kit r s v x)
 unfolding after_commit accept
 next_commit kit r a s v x b fx ax sl run ev ec en =
     next_settle kit x p₁ (settled_count kit x p n) (settled_count kit x p₁ n) a (moved_none r x) ax free run run
@@ -155,7 +155,7 @@ next_commit kit r a s v x b fx ax sl run ev ec en =
     loc : Part kit r x p (r.counter x ag) (r.counter x up)
     loc = a.part x fx
 
-    free : p.held ≡ none
+    free : p.held ≡ None
     free = loc.common.running_holds-none run
 
     ups : settled_count kit x p n ≤ settled_count kit x p₁ n
@@ -198,7 +198,7 @@ module _ (kit : Kit) (r : Room) (a : Invariant kit r) (s v x : ℕ) (fx : is_mar
   loc = a.part x fx
 
   -- an UPDATE of pair v, which x has noted
-  next_known : v ≤ length p.noted → nth (r.counter s up) (p.accepted s up) ≡ some (Update (entry_at p.noted v) (entry_at p.pair_marks v))
+  next_known : v ≤ length p.noted → nth (r.counter s up) (p.accepted s up) ≡ Some (Update (entry_at p.noted v) (entry_at p.pair_marks v))
       → Next kit r (after_update kit r x (accept p s up v))
   unfolding accept
   next_known l ec =
@@ -211,7 +211,7 @@ module _ (kit : Kit) (r : Room) (a : Invariant kit r) (s v x : ℕ) (fx : is_mar
       (settled_count_rises kit x p (accept p s up v) n n (omega arith) (λ y m. accepted_rises p.accepted s up v y m ev)))
 
   -- an UPDATE of a new request, which x notes
-  next_new : (q mark : ℕ) → length p.noted < v → nth (r.counter s up) (p.accepted s up) ≡ some (Update q mark)
+  next_new : (q mark : ℕ) → length p.noted < v → nth (r.counter s up) (p.accepted s up) ≡ Some (Update q mark)
       → holds q r.submitted ≡ true → holds q p.noted ≡ false → Next kit r (after_update kit r x (accept (note_pair p q mark) s up v))
   unfolding accept note_pair
   next_new q mark l ec es en =
@@ -273,11 +273,11 @@ next_sw kit roles r a s v x fx op hs =
     c₁ : Common kit r p₁
     c₁ = common_same kit refl refl refl refl loc.common
 
-    some_of : (h : Option ℕ) → is_some h ≡ true → (n : ℕ) × (h ≡ some n)
-    some_of none e = no_way (cc)
-    some_of (some n) e = (n, refl)
+    some_of : (h : Option ℕ) → is_some h ≡ true → (n : ℕ) × (h ≡ Some n)
+    some_of None e = no_way (cc)
+    some_of (Some n) e = (n, refl)
 
-    held : (n : ℕ) × (p.held ≡ some n)
+    held : (n : ℕ) × (p.held ≡ Some n)
     held = some_of p.held hs
 
     ok : is_faulty p.condition ≡ false

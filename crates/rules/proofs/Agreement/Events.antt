@@ -1,6 +1,6 @@
 -- The other events and the clock keep the invariant: submit, issue, PANIC, file. Then each event of a good kit does.
 -- Assumes nothing.
-use Rattle.std.specs.Prelude.{◌≡◌, refl, true, false, List, [], ◌∷◌, ◌++◌, ℕ, suc, ◌<◌, length}
+use Rattle.std.specs.Prelude.{◌≡◌, refl, true, false, List, [], ◌∷◌, ◌++◌, ℕ, suc, ◌<◌, length, Ok, Err}
 use Rattle.std.proofs.Common.{sym, ap, ◌∙◌, arith}
 use Rattle.std.proofs.Math.Path.{subst}
 use Rattle.terms.specs.Limits.{ag, up, requests_max}
@@ -12,7 +12,8 @@ use Rattle.terms.specs.declared.Content.TheVariants.{Prepare}
 use Rattle.terms.specs.declared.Condition.TheVariants.{Halted}
 use Rattle.terms.specs.declared.Event.{Event}
 use Rattle.terms.specs.declared.Act.{Act}
-use Rattle.terms.specs.declared.Decision.{Decision}
+use Rattle.terms.specs.Numbers.{Decision}
+use Rattle.terms.specs.declared.Deed.{Deed}
 use Rattle.rules.specs.Table.{is_marked_faulty, switch_leader}
 use Rattle.rules.proofs.Laws.TableLaws.{Roles}
 use Rattle.rules.specs.Room.{Room, Replica, with_replica, with_clock, with_late, issue, remember, with_condition, note}
@@ -156,13 +157,13 @@ module _ (kit : Kit) (roles : Roles kit) (r : Room) (a : Invariant kit r) (e : E
 
   next_carried : (d : Decision) → Tested kit r e x d → Next kit r (carried_out kit r x d list)
   unfolding carried_out
-  next_carried (Decision.Refuse answer) t = next_none kit r a
-  next_carried (Decision.Submit q) t = next_submit kit roles r a q t.new t.few
-  next_carried (Decision.Issue y m c) t = next_issue kit r a y m c t.faulty
-  next_carried (Decision.Act act) t = next_acted act t
-  next_carried Decision.Idle t = next_none kit r a
-  next_carried (Decision.Build j k) t = next_build kit roles r a e x j k t
-  next_carried (Decision.File j k) t =
+  next_carried (Err answer) t = next_none kit r a
+  next_carried (Ok (Deed.Submit q)) t = next_submit kit roles r a q t.new t.few
+  next_carried (Ok (Deed.Issue y m c)) t = next_issue kit r a y m c t.faulty
+  next_carried (Ok (Deed.Act act)) t = next_acted act t
+  next_carried (Ok Deed.Idle) t = next_none kit r a
+  next_carried (Ok (Deed.Build j k)) t = next_build kit roles r a e x j k t
+  next_carried (Ok (Deed.File j k)) t =
       let g = subst (λ (event : Event). GoodEvent size event list) t.event good in
       next_file kit r a j k list (record { j_k = g.0; k_list = g.1; list_max = g.2 })
 

@@ -4,7 +4,7 @@
 use Rattle.std.proofs.Common.{◌≡◌, refl, true, false, ◌≢◌, List, [], ◌∷◌, ◌++◌, length, ◌∙◌, arith, ℕ, suc, ◌<◌}
 use Rattle.std.proofs.Math.Path.{sym, ap}
 use Rattle.std.proofs.Math.Logic.{⊎_elim}
-use Rattle.std.proofs.Math.Option.{some}
+use Rattle.std.specs.Prelude.{Some}
 use Rattle.terms.specs.Limits.{ag, up, sw, requests_max}
 use Rattle.terms.specs.Lists.{nth, holds, Sub}
 use Rattle.terms.specs.ListLaws.{split, same?, nth-snoc_inv, once-snoc, length-snoc}
@@ -21,7 +21,7 @@ use Rattle.rules.proofs.Agreement.OneRoom.{open_list, settled_closed, settled_op
 
 -- every filed history is within its bounds
 abbrev pub Fit : Room → Type 0
-Fit r = (i : ℕ) (h : Filing) → nth r.histories i ≡ some h → FilingBounds h
+Fit r = (i : ℕ) (h : Filing) → nth r.histories i ≡ Some h → FilingBounds h
 
 -- from r to r₁ replica x alone may change; there it has record p and has issued `ags` on ag and `ups` on up
 pub record Moved (r r₁ : Room) (x : ℕ) (p : Replica) (ags ups : List Content) : Type 0 where
@@ -189,14 +189,14 @@ grows_open kit {r} {r₁} x {p} {ags} v z w e f s =
 
 -- where x closes
 closed_now : (kit : Kit) {r r₁ : Room} (x : ℕ) {p : Replica} {ags ups : List Content} → Moved r r₁ x p ags ups → is_closed p.condition ≡ true
-    → (h : ℕ) → p.held ≡ some h → (w : Backed kit r h)
+    → (h : ℕ) → p.held ≡ Some h → (w : Backed kit r h)
     → settled kit r₁ x ≡ w.filing.list
 unfolding settled held_list
 closed_now kit x {p} v f h eh w = rw (v.record_now, closed_correct p.condition f, f, eh, v.grows.filings _ _ w.is_filed_lem)
 
 pub grows_closing : (kit : Kit) {r r₁ : Room} (x : ℕ) {p : Replica} {ags ups : List Content} → Moved r r₁ x p ags ups
     → is_faulty (r.replica x).condition ≡ false → is_closed (r.replica x).condition ≡ false → is_closed p.condition ≡ true
-    → (h : ℕ) → p.held ≡ some h → (w : Backed kit r h) → Sub (open_list kit r x) w.filing.list → Sub (settled kit r x) (settled kit r₁ x)
+    → (h : ℕ) → p.held ≡ Some h → (w : Backed kit r h) → Sub (open_list kit r x) w.filing.list → Sub (settled kit r x) (settled kit r₁ x)
 grows_closing kit {r} x v z e f h eh w s = rw (settled_open kit r x z e, closed_now kit x v f h eh w) s
 
 -- where no record and no ag or up counter changes

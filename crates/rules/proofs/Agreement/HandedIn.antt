@@ -1,13 +1,12 @@
 -- A kit into which a hand of the history that event 7 built has been put, at a later place and with its own two values: it is a good kit, up to there it
 -- plays as the kit does, and there the hand is taken. Places of events are counted from 0. Assumes nothing.
-use Rattle.std.specs.Prelude.{◌≡◌, refl, [], ◌∷◌, ℕ, suc, ◌+◌, ◌≤◌, ◌<◌, length, drop}
+use Rattle.std.specs.Prelude.{◌≡◌, refl, [], ◌∷◌, ℕ, suc, ◌+◌, ◌≤◌, ◌<◌, length, drop, Some}
 use Rattle.std.proofs.Math.Path.{ap}
 use Rattle.std.proofs.Common.{◌∙◌, arith}
-use Rattle.std.proofs.Math.Option.{some}
 use Rattle.terms.specs.Limits.{replicas, ticks_max, events_max, requests_max}
 use Rattle.terms.specs.Lists.{nth}
 use Rattle.terms.specs.Kit.{Kit, Entry, GoodKit, GoodEntry}
-use Rattle.terms.specs.declared.Answer.TheVariants.{Taken}
+use Rattle.terms.specs.Numbers.{Taken}
 use Rattle.rules.specs.Room.{Room, Filing}
 use Rattle.rules.specs.Outcome.{Outcome}
 use Rattle.rules.specs.Play.{step, after, answer}
@@ -41,8 +40,8 @@ handed_in kit n gap p q to = replace n 0 (handing gap p q to [] ∷ []) kit
 pub record PlaysHandedIn (kit kit₁ : Kit) (n number gap to : ℕ) : Type 0 where
   pub room_before : (i : ℕ) → i ≤ n → after kit₁ i ≡ after kit i
   pub answer_before : (i : ℕ) → i < n → answer kit₁ i ≡ answer kit i
-  pub is_taken : answer kit₁ n ≡ some Taken
-  pub is_held : ((after kit₁ (suc n)).replica to).held ≡ some number
+  pub is_taken : answer kit₁ n ≡ Some Taken
+  pub is_held : ((after kit₁ (suc n)).replica to).held ≡ Some number
   pub clock : (after kit₁ (suc n)).clock ≡ (after kit n).clock + gap
   pub count : length kit₁.events ≡ suc (length kit.events)
 
@@ -60,7 +59,7 @@ module _ {kit : Kit} {n number gap p q to : ℕ} (good : GoodKit kit) (c : CanHa
   now : Believed kit n number c.filing
   now = (switch_leader_believed kit good).believed c.m number c.filing c.built n c.later
 
-  hand_stands : nth kit₁.events n ≡ some hand
+  hand_stands : nth kit₁.events n ≡ Some hand
   hand_stands = first_stands (back hand_instead)
 
   -- the hand in the kit into which it is put
@@ -82,7 +81,7 @@ module _ {kit : Kit} {n number gap p q to : ℕ} (good : GoodKit kit) (c : CanHa
       record {
         room_before = rooms_before hand_instead;
         answer_before = answers_before hand_instead;
-        is_taken = rw hand_stands (ap (λ (o : Outcome). some o.answer) hand_plays ∙ ap some (now.is_taken p q c.own to c.receiver gap []));
+        is_taken = rw hand_stands (ap (λ (o : Outcome). Some o.answer) hand_plays ∙ ap Some (now.is_taken p q c.own to c.receiver gap []));
         is_held = ap (λ (r : Room). (r.replica to).held) room_then ∙ now.is_held p q c.own to c.receiver gap [];
         clock = ap (λ (r : Room). r.clock) room_then ∙ step_clock kit (after kit n) hand;
         count = more;

@@ -4,7 +4,7 @@
 use Rattle.std.proofs.Common.{◌≡◌, true, false, List, [], ◌∷◌, ◌++◌, ℕ, zero, suc, ◌≤◌, ◌<◌, eqb, sym, ◌∙◌, ⊎_elim, eqb-true, arith}
 use Rattle.std.proofs.Math.Path.{refl, ap}
 use Rattle.std.proofs.Math.Bool.{or-true}
-use Rattle.std.proofs.Math.Option.{Option, none, some}
+use Rattle.std.specs.Prelude.{Option, None, Some}
 use Rattle.std.proofs.Math.ListN.{length, get_or, length-append, get_or-append}
 use Rattle.std.proofs.Math.Seq.{take-append-le}
 use Rattle.terms.specs.Limits.{ag, up}
@@ -34,7 +34,7 @@ use Rattle.rules.proofs.Laws.Tested.{ToHand, ToBuild}
 -- ---- hand
 
 -- a history that passes the test is backed
-valid_backed : (kit : Kit) (r : Room) (p q h : ℕ) (e : Filing) → e.k ≤ length e.list → nth r.histories h ≡ some e
+valid_backed : (kit : Kit) (r : Room) (p q h : ℕ) (e : Filing) → e.k ≤ length e.list → nth r.histories h ≡ Some e
     → is_valid kit r p q h e ≡ true → Backed kit r h
 unfolding is_valid is_committed
 valid_backed kit r p q h e long filed v =
@@ -43,8 +43,8 @@ valid_backed kit r p q h e long filed v =
     let t3 : all_below e.k (λ i. is_committed kit r e.list (suc i)) ≡ true = search (and_l, and_r) depth 8 in
     let t4 : all_of e.list (λ a. holds a r.submitted) ≡ true = search (and_l, and_r) depth 9 in
     let t5 : distinct e.list ≡ true = search (and_l, and_r) depth 9 in
-    let at : (i : ℕ) → i < e.k → (nth (r.counter (switch_leader kit) ag) i ≡ some (Commit (get_or e.list i 0) (suc i))) ×
-    (nth (r.counter kit.leader ag) i ≡ some (Prepare (get_or e.list i 0))) =
+    let at : (i : ℕ) → i < e.k → (nth (r.counter (switch_leader kit) ag) i ≡ Some (Commit (get_or e.list i 0) (suc i))) ×
+    (nth (r.counter kit.leader ag) i ≡ Some (Prepare (get_or e.list i 0))) =
     λ i l. let b = rw (entry_at-suc e.list i) at (all_below_at e.k _ t3 i l) in (
       is_content_same (nth (r.counter (switch_leader kit) ag) i) (Commit (get_or e.list i 0) (suc i)) (search (and_l, and_r)),
       is_content_same
@@ -66,8 +66,8 @@ valid_backed kit r p q h e long filed v =
 
 pub valid_filing_backed : (kit : Kit) (r : Room) → Invariant kit r → (p q h : ℕ) (o : Option Filing) → nth r.histories h ≡ o
     → is_valid_filing kit r p q h o ≡ true → Backed kit r h
-valid_filing_backed kit r a p q h none e v = no_way (cc)
-valid_filing_backed kit r a p q h (some w) e v = valid_backed kit r p q h w (a.histories_fit h w e).k_list e v
+valid_filing_backed kit r a p q h None e v = no_way (cc)
+valid_filing_backed kit r a p q h (Some w) e v = valid_backed kit r p q h w (a.histories_fit h w e).k_list e v
 
 pub next_hand : (kit : Kit) (r : Room) → Invariant kit r → (e : Event) (x h : ℕ) → ToHand kit r e x h → Next kit r (after_hand r x h)
 unfolding after_hand hold settled_noted settled_count
@@ -89,12 +89,12 @@ next_hand kit r a e x h t =
 -- ---- build
 
 -- what is missing was submitted and not noted, and stands there once
-missing_at : (noted l : List ℕ) (i q : ℕ) → nth (missing noted l) i ≡ some q → (holds q l ≡ true) × (holds q noted ≡ false)
+missing_at : (noted l : List ℕ) (i q : ℕ) → nth (missing noted l) i ≡ Some q → (holds q l ≡ true) × (holds q noted ≡ false)
 missing_at noted [] i q e = no_way (cc)
 missing_at noted (x ∷ xs) zero q e =
     split (holds x noted)
     (λ t. let h = missing_at noted xs zero q (rw t at e) in (rw h.0 (or-true (eqb q x)), h.1))
-    (λ t. let e₁ : some x ≡ some q = rw t at e in
+    (λ t. let e₁ : Some x ≡ Some q = rw t at e in
     let z : x ≡ q = cc in
     (rw (z, eqb_same q), rw z at t))
 missing_at noted (x ∷ xs) (suc i) q e =
@@ -113,7 +113,7 @@ missing_once noted (x ∷ xs) o =
 
 -- a correct switch leader that holds no history builds one
 module _ (kit : Kit) (roles : Roles kit) (r : Room) (a : Invariant kit r) (fs : is_marked_faulty kit (switch_leader kit) ≡ false)
-    (free : (r.replica (switch_leader kit)).held ≡ none) where
+    (free : (r.replica (switch_leader kit)).held ≡ None) where
   abbrev builder : Replica
   builder = r.replica (switch_leader kit)
 
@@ -142,18 +142,18 @@ module _ (kit : Kit) (roles : Roles kit) (r : Room) (a : Invariant kit r) (fs : 
   count_few = settled_count_own kit (switch_leader kit) builder (length ags) roles.switch_active
 
   -- its first k requests are those that it noted
-  first : (i : ℕ) → i < length ags → (nth builder.noted i ≡ some (get_or (built kit r).list i 0)) × (i < length builder.noted)
+  first : (i : ℕ) → i < length ags → (nth builder.noted i ≡ Some (get_or (built kit r).list i 0)) × (i < length builder.noted)
   unfolding built built_list
   first i l =
       let small : i < length builder.noted = omega (arith, shown.ag_total_lem free) in
       (rw (get_or-append builder.noted rest 0 i small) (nth-get_or builder.noted i 0 small), small)
 
   -- HISTORY comes to stand at k+1 and j+1
-  at_k : nth (ags ++ (History number ∷ [])) (built kit r).k ≡ some (History number)
+  at_k : nth (ags ++ (History number ∷ [])) (built kit r).k ≡ Some (History number)
   unfolding built built_list
   at_k = nth-snoc ags (History number)
 
-  at_j : nth (ups ++ (History number ∷ [])) (built kit r).j ≡ some (History number)
+  at_j : nth (ups ++ (History number ∷ [])) (built kit r).j ≡ Some (History number)
   unfolding built built_list
   at_j = rw (← (shown.up_total free)) (nth-snoc ups (History number))
 

@@ -1,7 +1,6 @@
 -- The invariant of every room that a kit's play reaches, replica by replica, and that growth keeps it. A replica's own record and its own ag
 -- and up lists are arguments; the rest of the room is read only through what grows. Assumes nothing.
-use Rattle.std.specs.Prelude.{◌≡◌, true, false, ◌≢◌, List, ℕ, suc, ◌≤◌, ◌<◌, length, take}
-use Rattle.std.proofs.Math.Option.{Option, none, some}
+use Rattle.std.specs.Prelude.{◌≡◌, true, false, ◌≢◌, List, ℕ, suc, ◌≤◌, ◌<◌, length, take, Option, None, Some}
 use Rattle.terms.specs.Limits.{ag, up, requests_max}
 use Rattle.terms.specs.Lists.{nth, holds, Once}
 use Rattle.terms.specs.Mark.{mark_of}
@@ -30,46 +29,46 @@ pub record Submissions (requests ticks : List ℕ) : Type 0 where
 -- the leader's ag values prepare its first k requests; its list is at least k long, without repeats and submitted
 pub record Backed (kit : Kit) (r : Room) (h : ℕ) : Type 0 where
   pub filing : Filing
-  pub is_filed_lem : nth r.histories h ≡ some filing
-  pub announced : nth (r.counter (switch_leader kit) ag) filing.k ≡ some (History h)
-  pub commits_below : (i : ℕ) → i < filing.k → (q : ℕ) × (b : ℕ) × (nth (r.counter (switch_leader kit) ag) i ≡ some (Commit q b))
-  pub prepared : (i q : ℕ) → i < filing.k → nth filing.list i ≡ some q → nth (r.counter kit.leader ag) i ≡ some (Prepare q)
+  pub is_filed_lem : nth r.histories h ≡ Some filing
+  pub announced : nth (r.counter (switch_leader kit) ag) filing.k ≡ Some (History h)
+  pub commits_below : (i : ℕ) → i < filing.k → (q : ℕ) × (b : ℕ) × (nth (r.counter (switch_leader kit) ag) i ≡ Some (Commit q b))
+  pub prepared : (i q : ℕ) → i < filing.k → nth filing.list i ≡ Some q → nth (r.counter kit.leader ag) i ≡ Some (Prepare q)
   pub long : filing.k ≤ length filing.list
   pub once : Once filing.list
-  pub submitted : (i q : ℕ) → nth filing.list i ≡ some q → holds q r.submitted ≡ true
+  pub submitted : (i q : ℕ) → nth filing.list i ≡ Some q → holds q r.submitted ≡ true
 
 -- of every correct replica with record p
 pub record Common (kit : Kit) (r : Room) (p : Replica) : Type 0 where
   pub once : Once p.noted
-  pub submitted : (i q : ℕ) → nth p.noted i ≡ some q → holds q r.submitted ≡ true
-  pub held_backed : (h : ℕ) → p.held ≡ some h → Backed kit r h
-  pub running_holds-none : is_running p.condition ≡ true → p.held ≡ none
-  pub closed_holds : is_closed p.condition ≡ true → (h : ℕ) × (p.held ≡ some h)
+  pub submitted : (i q : ℕ) → nth p.noted i ≡ Some q → holds q r.submitted ≡ true
+  pub held_backed : (h : ℕ) → p.held ≡ Some h → Backed kit r h
+  pub running_holds-none : is_running p.condition ≡ true → p.held ≡ None
+  pub closed_holds : is_closed p.condition ≡ true → (h : ℕ) × (p.held ≡ Some h)
   pub pairs_few : length p.pair_marks ≤ length p.noted
 
 -- a HISTORY that a replica issued is the last on its counter, and is of the history that it holds
 abbrev pub HistoryLast : Option ℕ → List Content → Type 0
-HistoryLast held issued = (i h : ℕ) → nth issued i ≡ some (History h) → (suc i ≡ length issued) × (held ≡ some h)
+HistoryLast held issued = (i h : ℕ) → nth issued i ≡ Some (History h) → (suc i ≡ length issued) × (held ≡ Some h)
 
 -- of an active one, x, that issued `ags` on ag and `ups` on up and has settled c but for a closing
 pub record Active (kit : Kit) (r : Room) (x : ℕ) (p : Replica) (ags ups : List Content) (c : ℕ) : Type 0 where
-  pub prepared : (i q : ℕ) → nth p.noted i ≡ some q → nth (r.counter kit.leader ag) i ≡ some (Prepare q)
-  pub committed : x ≢ kit.leader → (i q : ℕ) → nth p.noted i ≡ some q → nth ags i ≡ some (Commit q (suc i))
-  pub ag_total_lem : p.held ≡ none → length ags ≡ length p.noted
-  pub leader_accepted : x ≢ kit.leader → p.held ≡ none → p.accepted kit.leader ag ≡ length p.noted
+  pub prepared : (i q : ℕ) → nth p.noted i ≡ Some q → nth (r.counter kit.leader ag) i ≡ Some (Prepare q)
+  pub committed : x ≢ kit.leader → (i q : ℕ) → nth p.noted i ≡ Some q → nth ags i ≡ Some (Commit q (suc i))
+  pub ag_total_lem : p.held ≡ None → length ags ≡ length p.noted
+  pub leader_accepted : x ≢ kit.leader → p.held ≡ None → p.accepted kit.leader ag ≡ length p.noted
   pub commits_seen : (y : ℕ) → y ≢ kit.leader → (i : ℕ) → i < p.accepted y ag
-      → (q : ℕ) × (nth p.noted i ≡ some q) × (nth (r.counter y ag) i ≡ some (Commit q (suc i)))
-  pub updates_settled : (i q m : ℕ) → nth ups i ≡ some (Update q m) → nth (settled_noted kit x p (length ags)) i ≡ some q
-  pub up_total : p.held ≡ none → length ups ≡ c
+      → (q : ℕ) × (nth p.noted i ≡ Some q) × (nth (r.counter y ag) i ≡ Some (Commit q (suc i)))
+  pub updates_settled : (i q m : ℕ) → nth ups i ≡ Some (Update q m) → nth (settled_noted kit x p (length ags)) i ≡ Some q
+  pub up_total : p.held ≡ None → length ups ≡ c
   pub mark_settled : is_closed p.condition ≡ false → p.mark ≡ mark_of (take c p.noted)
   pub updates_marked : (i : ℕ) → i < c
-      → (q : ℕ) × (nth p.noted i ≡ some q) × (nth ups i ≡ some (Update q (mark_of (take (suc i) p.noted))))
+      → (q : ℕ) × (nth p.noted i ≡ Some q) × (nth ups i ≡ Some (Update q (mark_of (take (suc i) p.noted))))
   pub ag_history : HistoryLast p.held ags
   pub up_history : HistoryLast p.held ups
 
 -- of a passive one: below an accepted up value stand UPDATEs of its noted requests
 pub record Passive (kit : Kit) (r : Room) (p : Replica) : Type 0 where
-  pub updated : (y i : ℕ) → i < p.accepted y up → (q : ℕ) × (m : ℕ) × (nth p.noted i ≡ some q) × (nth (r.counter y up) i ≡ some (Update q m))
+  pub updated : (y i : ℕ) → i < p.accepted y up → (q : ℕ) × (m : ℕ) × (nth p.noted i ≡ Some q) × (nth (r.counter y up) i ≡ Some (Update q m))
   pub paired : length p.pair_marks ≡ length p.noted
 
 -- one replica's part; its counters ag and up are at most one longer than its noted requests
@@ -83,7 +82,7 @@ pub record Part (kit : Kit) (r : Room) (x : ℕ) (p : Replica) (ags ups : List C
 -- the parts of the correct replicas; how long every filed history is; which replicas are faulty never changes
 pub record Invariant (kit : Kit) (r : Room) : Type 0 where
   pub part : (x : ℕ) → is_marked_faulty kit x ≡ false → Part kit r x (r.replica x) (r.counter x ag) (r.counter x up)
-  pub histories_fit : (i : ℕ) (h : Filing) → nth r.histories i ≡ some h → FilingBounds h
+  pub histories_fit : (i : ℕ) (h : Filing) → nth r.histories i ≡ Some h → FilingBounds h
   pub submissions : Submissions r.submitted r.ticks
   pub faulty_marked : (x : ℕ) → is_faulty (r.replica x).condition ≡ is_marked_faulty kit x
 

@@ -1,9 +1,8 @@
 -- One replica's part of the invariant through each change of its record and of its own ag and up lists. In order: an active replica notes, prepares,
 -- commits, submits, settles, holds, builds (`active-…`); the part that all have, as a replica halts, holds and closes (`common-…`); a passive replica
 -- (`passive-…`). Assumes nothing.
-use Rattle.std.specs.Prelude.{◌≡◌, refl, true, false, ◌≢◌, List, [], ◌∷◌, ◌++◌, ℕ, suc, ◌≤◌, ◌<◌, length, take, get_or, eqb, ltb}
+use Rattle.std.specs.Prelude.{◌≡◌, refl, true, false, ◌≢◌, List, [], ◌∷◌, ◌++◌, ℕ, suc, ◌≤◌, ◌<◌, length, take, get_or, eqb, ltb, Option, None, Some}
 use Rattle.std.proofs.Common.{sym, ap, ◌∙◌, ⊎_elim, arith, ltb-true, ltb-false, eqb-true}
-use Rattle.std.proofs.Math.Option.{Option, none, some}
 use Rattle.std.proofs.lemmas.List.{take-append-le}
 use Rattle.terms.specs.Limits.{ag, up}
 use Rattle.terms.specs.Lists.{nth, holds, Sub}
@@ -32,7 +31,7 @@ common_note kit {r} {r₁} g {p} {p₁} q en ec eh lp ms mn c =
     record {
       once = rw en (once-snoc p.noted q c.once mn);
       submitted = λ i a e.
-          let z : nth (p.noted ++ (q ∷ [])) i ≡ some a = rw en at e in
+          let z : nth (p.noted ++ (q ∷ [])) i ≡ Some a = rw en at e in
           ⊎_elim (λ h. still_submitted g a (c.submitted i a h)) (λ h. rw (← h.1) ms) (nth-snoc_inv p.noted q i z);
       held_backed = λ h e. backed_grows kit g (c.held_backed h (cc));
       running_holds-none = λ e. eh ∙ c.running_holds-none (rw ec at e);
@@ -41,13 +40,13 @@ common_note kit {r} {r₁} g {p} {p₁} q en ec eh lp ms mn c =
     }
 
 -- a content other than HISTORY is issued by one that holds nothing
-history_none : (held : Option ℕ) (issued : List Content) (c : Content) → held ≡ none → ((h : ℕ) → c ≢ History h) → HistoryLast held issued
+history_none : (held : Option ℕ) (issued : List Content) (c : Content) → held ≡ None → ((h : ℕ) → c ≢ History h) → HistoryLast held issued
     → HistoryLast held (issued ++ (c ∷ []))
 history_none held issued c free other w i h e = ⊎_elim (λ t. no_way (cc ((w i h t).1, free))) (λ t. absurd (other h t.1)) (nth-snoc_inv issued c i e)
 
 -- HISTORY of what it now holds
-history_now : (held : Option ℕ) (issued : List Content) (n : ℕ) → held ≡ none → HistoryLast held issued
-    → HistoryLast (some n) (issued ++ (History n ∷ []))
+history_now : (held : Option ℕ) (issued : List Content) (n : ℕ) → held ≡ None → HistoryLast held issued
+    → HistoryLast (Some n) (issued ++ (History n ∷ []))
 history_now held issued n free w i h e =
     ⊎_elim (λ t. no_way (cc ((w i h t).1, free))) (λ t. (omega (arith, t.0, length-snoc issued (History n)), cc t.1))
     (nth-snoc_inv issued (History n) i e)
@@ -66,15 +65,15 @@ module _ {kit : Kit} {r : Room} {x : ℕ} {p : Replica} {ags ups : List Content}
     mark_noted op = a.mark_settled op ∙ ap mark_of (sym (take-append-le c p.noted (q ∷ []) settled_within))
 
     updates_noted : (i : ℕ) → i < c
-        → (b : ℕ) × (nth (p.noted ++ (q ∷ [])) i ≡ some b) × (nth ups i ≡ some (Update b (mark_of (take (suc i) (p.noted ++ (q ∷ []))))))
+        → (b : ℕ) × (nth (p.noted ++ (q ∷ [])) i ≡ Some b) × (nth ups i ≡ Some (Update b (mark_of (take (suc i) (p.noted ++ (q ∷ []))))))
     updates_noted i l =
         let t = a.updates_marked i l in
         (t.0, nth-append p.noted (q ∷ []) i t.1, rw (take-append-le (suc i) p.noted (q ∷ []) (omega (arith, settled_within))) t.2)
 
 -- PREPARE of q as the leader's next value
 pub active_prepare : (kit : Kit) {r r₁ : Room} → Grows r r₁ → (x : ℕ) (p : Replica) (ags ups : List Content) (c q v : ℕ)
-    → x ≢ kit.leader → p.held ≡ none
-    → v ≡ suc (length p.noted) → nth (r.counter kit.leader ag) (length p.noted) ≡ some (Prepare q)
+    → x ≢ kit.leader → p.held ≡ None
+    → v ≡ suc (length p.noted) → nth (r.counter kit.leader ag) (length p.noted) ≡ Some (Prepare q)
     → Sub (settled_noted kit x p (length ags)) (settled_noted kit x (accept (note p q) kit.leader ag v) (length (ags ++ (Commit q v ∷ []))))
     → Active kit r x p ags ups c → Active kit r₁ x (accept (note p q) kit.leader ag v) (ags ++ (Commit q v ∷ [])) ups c
 unfolding accept note
@@ -100,8 +99,8 @@ active_prepare kit {r} {r₁} g x p ags ups c q v xl free ev ep sub a =
 
 -- a COMMIT accepted from s, neither x nor the leader
 pub active_commit : (kit : Kit) {r : Room} (x : ℕ) (p : Replica) (ags ups : List Content) (c s b v : ℕ) → s ≢ kit.leader → v ≡ suc (p.accepted s ag)
-    → nth p.noted (p.accepted s ag) ≡ some b
-    → nth (r.counter s ag) (p.accepted s ag) ≡ some (Commit b v)
+    → nth p.noted (p.accepted s ag) ≡ Some b
+    → nth (r.counter s ag) (p.accepted s ag) ≡ Some (Commit b v)
     → Sub (settled_noted kit x p (length ags)) (settled_noted kit x (accept p s ag v) (length ags))
     → Active kit r x p ags ups c → Active kit r x (accept p s ag v) ags ups c
 unfolding accept
@@ -126,7 +125,7 @@ active_commit kit {r} x p ags ups c s b v sl ev en es sub a =
     }
 
 -- the leader notes q and issues PREPARE
-pub active_submit : (kit : Kit) {r r₁ : Room} → Grows r r₁ → (p : Replica) (ags ups : List Content) (c q : ℕ) → p.held ≡ none
+pub active_submit : (kit : Kit) {r r₁ : Room} → Grows r r₁ → (p : Replica) (ags ups : List Content) (c q : ℕ) → p.held ≡ None
     → r₁.counter kit.leader ag ≡ ags ++ (Prepare q ∷ [])
     → Sub (settled_noted kit kit.leader p (length ags)) (settled_noted kit kit.leader (note p q) (length (ags ++ (Prepare q ∷ []))))
     → Active kit r kit.leader p ags ups c → Active kit r₁ kit.leader (note p q) (ags ++ (Prepare q ∷ [])) ups c
@@ -149,7 +148,7 @@ active_submit kit {r} {r₁} g p ags ups c q free er sub a =
     }
 
 -- c rises to d: x executes request c, its mark is m then, and its UPDATE says mark w, which is the same
-pub active_rise : (kit : Kit) {r : Room} (x : ℕ) (p : Replica) (ags ups : List Content) (c d m w : ℕ) → is_active kit x ≡ true → p.held ≡ none
+pub active_rise : (kit : Kit) {r : Room} (x : ℕ) (p : Replica) (ags ups : List Content) (c d m w : ℕ) → is_active kit x ≡ true → p.held ≡ None
     → m ≡ next_mark p.mark (get_or p.noted c 0) → w ≡ m → is_closed p.condition ≡ false
     → d ≡ settled_count kit x p (length ags) → d ≡ suc c
     → Active kit r x p ags ups c
@@ -209,7 +208,7 @@ active_same kit x p p₁ ags ups en eh ea em es a =
     }
 
 -- a history is held
-pub active_hold : (kit : Kit) {r : Room} (x : ℕ) (p : Replica) (ags ups : List Content) (c h : ℕ) → p.held ≡ none → Active kit r x p ags ups c
+pub active_hold : (kit : Kit) {r : Room} (x : ℕ) (p : Replica) (ags ups : List Content) (c h : ℕ) → p.held ≡ None → Active kit r x p ags ups c
     → Active kit r x (hold p h) ags ups c
 unfolding hold settled_noted settled_count
 active_hold kit {r} x p ags ups c h free a =
@@ -228,7 +227,7 @@ active_hold kit {r} x p ags ups c h free a =
     }
 
 -- the switch leader issues HISTORY on ag and up
-pub active_build : (kit : Kit) {r : Room} (p : Replica) (ags ups : List Content) (c h : ℕ) → p.held ≡ none
+pub active_build : (kit : Kit) {r : Room} (p : Replica) (ags ups : List Content) (c h : ℕ) → p.held ≡ None
     → Active kit r (switch_leader kit) p ags ups c → Active kit r (switch_leader kit) (hold p h) (ags ++ (History h ∷ [])) (ups ++ (History h ∷ [])) c
 unfolding hold
 active_build kit {r} p ags ups c h free a =
@@ -251,7 +250,7 @@ active_build kit {r} p ags ups c h free a =
     }
 
 -- where nothing is held both counters are as long as what is noted and settled
-pub active_few : (kit : Kit) {r : Room} (x : ℕ) (p : Replica) (ags ups : List Content) → is_active kit x ≡ true → p.held ≡ none
+pub active_few : (kit : Kit) {r : Room} (x : ℕ) (p : Replica) (ags ups : List Content) → is_active kit x ≡ true → p.held ≡ None
     → Active kit r x p ags ups (settled_count kit x p (length ags)) → (length ags ≤ suc (length p.noted)) × (length ups ≤ suc (length p.noted))
 active_few kit x p ags ups ax free a =
     let t = a.ag_total_lem free in
@@ -283,7 +282,7 @@ common_halt kit p c =
       pairs_few = c.pairs_few;
     }
 
-pub common_close : (kit : Kit) {r : Room} (p : Replica) (h : ℕ) → p.held ≡ some h → Common kit r p → Common kit r (with_condition p Closed)
+pub common_close : (kit : Kit) {r : Room} (p : Replica) (h : ℕ) → p.held ≡ Some h → Common kit r p → Common kit r (with_condition p Closed)
 unfolding with_condition
 common_close kit p h eh c =
     record {
@@ -318,7 +317,7 @@ passive_same kit {r} {p} {p₁} en em ea a = record { updated = λ y i l. rw en 
 -- UPDATE of q accepted from s as its next value, and q stands there
 pub passive_accept : (kit : Kit) {r : Room} (p p₁ : Replica) (s v q m : ℕ) → Sub p.noted p₁.noted → length p₁.pair_marks ≡ length p₁.noted
     → p₁.accepted ≡ put2 p.accepted s up v → v ≡ suc (p.accepted s up)
-    → nth p₁.noted (p.accepted s up) ≡ some q → nth (r.counter s up) (p.accepted s up) ≡ some (Update q m) → Passive kit r p → Passive kit r p₁
+    → nth p₁.noted (p.accepted s up) ≡ Some q → nth (r.counter s up) (p.accepted s up) ≡ Some (Update q m) → Passive kit r p → Passive kit r p₁
 passive_accept kit {r} p p₁ s v q m sub ep ea ev en eu a =
     record {
       updated = λ y i l.

@@ -2,9 +2,8 @@
 -- are the same one; (B) a correct replica that is not closed has settled at most k of a backed history, as the front of its list; (C) what a
 -- passive one settled is the front of what a correct active one settled, and there is one; (D) so closing only lengthens a list.
 -- Assumes nothing.
-use Rattle.std.specs.Prelude.{◌≡◌, true, false, ◌≢◌, List, ℕ, ◌<◌, ltb}
+use Rattle.std.specs.Prelude.{◌≡◌, true, false, ◌≢◌, List, ℕ, ◌<◌, ltb, Some}
 use Rattle.std.proofs.Common.{sym, ◌∙◌, ⊎_elim, arith, ltb-true, ltb-false}
-use Rattle.std.proofs.Math.Option.{some}
 use Rattle.terms.specs.Limits.{ag, up}
 use Rattle.terms.specs.Lists.{nth, holds, Once, Sub, Agree}
 use Rattle.terms.specs.ListLaws.{split, no_way, nth-lt, nth_in, tri, same?}
@@ -34,7 +33,7 @@ open_list kit r x = settled_noted kit x (r.replica x) (ag_total r x)
 
 -- the list of a closed replica is that of the history that it holds; that of another correct one is its open list
 pub settled_closed : (kit : Kit) (r : Room) (x : ℕ) → is_closed (r.replica x).condition ≡ true → (c : Common kit r (r.replica x))
-    → (h : ℕ) × (w : Backed kit r h) × ((r.replica x).held ≡ some h) × (settled kit r x ≡ w.filing.list)
+    → (h : ℕ) × (w : Backed kit r h) × ((r.replica x).held ≡ Some h) × (settled kit r x ≡ w.filing.list)
 unfolding settled held_list
 settled_closed kit r x e c =
     let h = c.closed_holds e in
@@ -59,8 +58,8 @@ module _ (kit : Kit) (roles : Roles kit) (r : Room) (all : Invariant kit r) wher
       rw z at s
 
   -- every open list follows the leader's PREPAREs
-  pub open_prepared : (x : ℕ) → is_marked_faulty kit x ≡ false → (i q : ℕ) → nth (open_list kit r x) i ≡ some q
-      → nth (r.counter kit.leader ag) i ≡ some (Prepare q)
+  pub open_prepared : (x : ℕ) → is_marked_faulty kit x ≡ false → (i q : ℕ) → nth (open_list kit r x) i ≡ Some q
+      → nth (r.counter kit.leader ag) i ≡ Some (Prepare q)
   open_prepared x fx i q e =
       split (is_active kit x) (λ a. ((all.part x fx).active a).prepared i q (settled_noted_at kit x (r.replica x) _ i q e).1)
       (λ a. let h = roles.some_correct in
@@ -69,13 +68,13 @@ module _ (kit : Kit) (roles : Roles kit) (r : Room) (all : Invariant kit r) wher
 
   -- (B) x has seen fewer than k of the switch leader's values: value k+1 is no COMMIT
   active_below : (x : ℕ) → is_marked_faulty kit x ≡ false → is_active kit x ≡ true → {h : ℕ} (w : Backed kit r h) (i q : ℕ)
-      → nth (open_list kit r x) i ≡ some q → i < w.filing.k
+      → nth (open_list kit r x) i ≡ Some q → i < w.filing.k
   active_below x fx a w i q e = ⊎_elim own other (same? x (switch_leader kit))
     where
       l : Active kit r x (r.replica x) (r.counter x ag) (r.counter x up) (settled_count kit x (r.replica x) (ag_total r x))
       l = (all.part x fx).active a
 
-      c : (i < settled_count kit x (r.replica x) (ag_total r x)) × (nth (r.replica x).noted i ≡ some q)
+      c : (i < settled_count kit x (r.replica x) (ag_total r x)) × (nth (r.replica x).noted i ≡ Some q)
       c = settled_noted_at kit x (r.replica x) _ i q e
 
       own : x ≡ switch_leader kit → i < w.filing.k
@@ -93,7 +92,7 @@ module _ (kit : Kit) (roles : Roles kit) (r : Room) (all : Invariant kit r) wher
           let s = l.commits_seen (switch_leader kit) roles.switch_not_leader w.filing.k (omega (arith, ltb-false i w.filing.k b, c.0)) in
           no_way (cc (w.announced, s.2))
 
-  pub open_below : (x : ℕ) → is_marked_faulty kit x ≡ false → {h : ℕ} (w : Backed kit r h) (i q : ℕ) → nth (open_list kit r x) i ≡ some q
+  pub open_below : (x : ℕ) → is_marked_faulty kit x ≡ false → {h : ℕ} (w : Backed kit r h) (i q : ℕ) → nth (open_list kit r x) i ≡ Some q
       → i < w.filing.k
   open_below x fx w i q e =
       split (is_active kit x) (λ a. active_below x fx a w i q e)
@@ -131,7 +130,7 @@ module _ (kit : Kit) (roles : Roles kit) (r : Room) (all : Invariant kit r) wher
       (λ cx. rw (open_list_lem x fx cx) λ i j a e d.
       (all.part x fx).common.once i j a (settled_noted_at kit x (r.replica x) _ i a e).1 (settled_noted_at kit x (r.replica x) _ j a d).1)
 
-  pub settled_submitted : (x : ℕ) → is_marked_faulty kit x ≡ false → (i q : ℕ) → nth (settled kit r x) i ≡ some q → holds q r.submitted ≡ true
+  pub settled_submitted : (x : ℕ) → is_marked_faulty kit x ≡ false → (i q : ℕ) → nth (settled kit r x) i ≡ Some q → holds q r.submitted ≡ true
   settled_submitted x fx =
       split (is_closed (r.replica x).condition) (λ cx. let s = closed_list x fx cx in rw s.2 s.1.submitted)
       (λ cx. rw (open_list_lem x fx cx) λ i q e. (all.part x fx).common.submitted i q (settled_noted_at kit x (r.replica x) _ i q e).1)

@@ -1,7 +1,6 @@
 -- A sound history passes the test of a hand, so that it is valid as long as it is sound, which is for ever; and with its two values a hand of it is taken
 -- by every halted replica, the switch leader excepted, that holds none. Assumes nothing.
-use Rattle.std.specs.Prelude.{◌≡◌, true, ◌≢◌, List, ℕ, suc, ◌<◌, eqb}
-use Rattle.std.proofs.Math.Option.{none, some}
+use Rattle.std.specs.Prelude.{◌≡◌, true, ◌≢◌, List, ℕ, suc, ◌<◌, eqb, None, Some}
 use Rattle.std.proofs.lemmas.Bool.{eqb-false}
 use Rattle.std.proofs.Common.{ne_eqb}
 use Rattle.terms.specs.Lists.{nth}
@@ -45,8 +44,8 @@ module _ (kit : Kit) {r : Room} {number : ℕ} {filing : Filing} (v : Sound kit 
 
 -- a hand of it is taken
 pub sound_hands
-    : (kit : Kit) {r : Room} {number : ℕ} {filing : Filing} → Sound kit r number filing → nth r.histories number ≡ some filing
-    → (to : ℕ) → to ≢ switch_leader kit → (r.replica to).condition ≡ Halted → (r.replica to).held ≡ none
+    : (kit : Kit) {r : Room} {number : ℕ} {filing : Filing} → Sound kit r number filing → nth r.histories number ≡ Some filing
+    → (to : ℕ) → to ≢ switch_leader kit → (r.replica to).condition ≡ Halted → (r.replica to).held ≡ None
     → (list : List ℕ) → on_event kit r (Hand (suc filing.k) (suc filing.j) to) list ≡ taken (after_hand r to number)
 unfolding on_event concerned decide decide_hand decide_hold refuse_if carried_out acted
 sound_hands kit v filed to other halted free list = rw (halted, v.on_ag, v.on_up, free, ne_eqb to (switch_leader kit) other, filed, sound_passes kit v)

@@ -1,7 +1,6 @@
 -- That the theorem is no empty statement: plays of good kits, computed from the rules, in which correct replicas have settled lists of different
 -- lengths. Assumes nothing.
-use Rattle.std.specs.Prelude.{◌≡◌, refl, List, [], ◌∷◌}
-use Rattle.std.proofs.Math.Option.{some}
+use Rattle.std.specs.Prelude.{◌≡◌, refl, List, [], ◌∷◌, Some, Err}
 use Rattle.grammar.specs.Parser.{parse}
 use Rattle.grammar.specs.ParserLaws.{accepted_good}
 use Rattle.terms.specs.Limits.{ag, up, sw}
@@ -11,7 +10,7 @@ use Rattle.terms.specs.declared.Content.TheVariants.{Prepare}
 use Rattle.terms.specs.declared.Condition.TheVariants.{Closed}
 use Rattle.terms.specs.declared.Event.{Event}
 use Rattle.terms.specs.declared.Event.TheVariants.{Submit, Issue, Deliver, Hand, Panic, Build}
-use Rattle.terms.specs.declared.Answer.TheVariants.{Unexpected, NotNext}
+use Rattle.terms.specs.declared.Refusal.TheVariants.{Unexpected, NotNext}
 use Rattle.rules.specs.Play.{after, answer}
 use Rattle.rules.proofs.Examples.Computing.{computing}
 use Rattle.rules.proofs.Agreement.Theorem.{settled_at, Correct}
@@ -72,9 +71,9 @@ pub record AgreementRows : Type 0 where
   pub open_leader : settled_at busy 13 0 ≡ 7 ∷ []
   pub open_switch_leader : settled_at busy 13 1 ≡ 7 ∷ 5 ∷ []
   -- a faulty leader's second PREPARE of a request is refused by both, and what comes after it too: their lists stay short, and are equal
-  pub second_refused : answer twice 9 ≡ some Unexpected
-  pub second_refused_too : answer twice 10 ≡ some Unexpected
-  pub third_refused : answer twice 11 ≡ some NotNext
+  pub second_refused : answer twice 9 ≡ Some (Err Unexpected)
+  pub second_refused_too : answer twice 10 ≡ Some (Err Unexpected)
+  pub third_refused : answer twice 11 ≡ Some (Err NotNext)
   pub short : settled_at twice 12 1 ≡ 7 ∷ []
   pub short_too : settled_at twice 12 2 ≡ 7 ∷ []
   -- all of it in plays that the theorem speaks of, of replicas that are not faulty

@@ -1,7 +1,6 @@
 -- How long everything can get in the play of a good kit: what the places of the code's arrays rest on. Assumes nothing.
-use Rattle.std.specs.Prelude.{◌≡◌, refl, true, false, List, [], ◌∷◌, ℕ, zero, suc, ◌*◌, ◌≤◌, length, take}
+use Rattle.std.specs.Prelude.{◌≡◌, refl, true, false, List, [], ◌∷◌, ℕ, zero, suc, ◌*◌, ◌≤◌, length, take, Some}
 use Rattle.std.proofs.Common.{ap, ◌∙◌, arith}
-use Rattle.std.proofs.Math.Option.{some}
 use Rattle.std.proofs.Math.ListN.{length-take}
 use Rattle.terms.specs.Limits.{replicas, ag, up, sw, places_max, requests_max, filed_max, ticks_max, events_max}
 use Rattle.terms.specs.Lists.{nth, Once}
@@ -75,7 +74,7 @@ module _ (kit : Kit) (good : GoodKit kit) where
       }
 
   -- the room in which event n is decided: its gap has been added
-  pub reached_ticked : (n : ℕ) (e : Entry) → nth kit.events n ≡ some e → Reached kit (tick kit (after kit n) e.gap)
+  pub reached_ticked : (n : ℕ) (e : Entry) → nth kit.events n ≡ Some e → Reached kit (tick kit (after kit n) e.gap)
   reached_ticked n e h =
       let r = after kit n in
       let inv = at_moment kit good n in
@@ -168,6 +167,6 @@ module _ (kit : Kit) (good : GoodKit kit) where
   bounds n = bounds_of (reached_after kit good n)
 
   -- an event settles at most one request more, but for a closing
-  pub settles_one : (n : ℕ) (e : Entry) → nth kit.events n ≡ some e → (x : ℕ)
+  pub settles_one : (n : ℕ) (e : Entry) → nth kit.events n ≡ Some e → (x : ℕ)
       → count_in kit (after kit (suc n)) x ≤ suc (count_in kit (after kit n) x)
   settles_one n e h x = rw (after_suc kit n e h) (settled_by_one kit (after kit n) (replicas kit.f) e (good.events_good n e h) x)

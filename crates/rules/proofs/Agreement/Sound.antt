@@ -1,6 +1,5 @@
 -- A sound history: one that has all that a hand asks for. Growth keeps it sound. Passes has what follows for a hand. Assumes nothing.
-use Rattle.std.specs.Prelude.{◌≡◌, true, ◌≢◌, ℕ, suc, ◌≤◌, ◌<◌, length, take, get_or}
-use Rattle.std.proofs.Math.Option.{some}
+use Rattle.std.specs.Prelude.{◌≡◌, true, ◌≢◌, ℕ, suc, ◌≤◌, ◌<◌, length, take, get_or, Some}
 use Rattle.terms.specs.Limits.{ag, up}
 use Rattle.terms.specs.Lists.{nth, holds, Once}
 use Rattle.terms.specs.ListLaws.{nth-lt, nth-get_or}
@@ -19,18 +18,18 @@ request filing i = get_or filing.list i 0
 -- of history `number` in the room
 pub record Sound (kit : Kit) (r : Room) (number : ℕ) (filing : Filing) : Type 0 where
   -- HISTORY of it stands at k+1 of the switch leader's ag and at j+1 of its up
-  pub on_ag : nth (r.counter (switch_leader kit) ag) filing.k ≡ some (History number)
-  pub on_up : nth (r.counter (switch_leader kit) up) filing.j ≡ some (History number)
+  pub on_ag : nth (r.counter (switch_leader kit) ag) filing.k ≡ Some (History number)
+  pub on_up : nth (r.counter (switch_leader kit) up) filing.j ≡ Some (History number)
   -- up to k the switch leader committed its requests and the leader prepared them
-  pub committed : (i : ℕ) → i < filing.k → nth (r.counter (switch_leader kit) ag) i ≡ some (Commit (request filing i) (suc i))
-  pub prepared : (i : ℕ) → i < filing.k → nth (r.counter kit.leader ag) i ≡ some (Prepare (request filing i))
+  pub committed : (i : ℕ) → i < filing.k → nth (r.counter (switch_leader kit) ag) i ≡ Some (Commit (request filing i) (suc i))
+  pub prepared : (i : ℕ) → i < filing.k → nth (r.counter kit.leader ag) i ≡ Some (Prepare (request filing i))
   -- up to j every other active replica committed them too, and the switch leader's UPDATEs have their marks
   pub committed_by_all : (i y : ℕ) → i < filing.j → holds y (actives kit) ≡ true → y ≢ kit.leader → y ≢ switch_leader kit
-      → nth (r.counter y ag) i ≡ some (Commit (request filing i) (suc i))
+      → nth (r.counter y ag) i ≡ Some (Commit (request filing i) (suc i))
   pub updated : (i : ℕ) → i < filing.j
-      → nth (r.counter (switch_leader kit) up) i ≡ some (Update (request filing i) (mark_of (take (suc i) filing.list)))
+      → nth (r.counter (switch_leader kit) up) i ≡ Some (Update (request filing i) (mark_of (take (suc i) filing.list)))
   -- each of its requests was submitted, and none stands twice
-  pub submitted : (i q : ℕ) → nth filing.list i ≡ some q → holds q r.submitted ≡ true
+  pub submitted : (i q : ℕ) → nth filing.list i ≡ Some q → holds q r.submitted ≡ true
   pub once : Once filing.list
 
 pub sound_grows : (kit : Kit) {r r₁ : Room} → Grows r r₁ → {number : ℕ} {filing : Filing} → Sound kit r number filing → Sound kit r₁ number filing
@@ -48,7 +47,7 @@ sound_grows kit g v =
 
 -- and it is backed: the agreement of settled lists needs no more
 pub sound_backed
-    : (kit : Kit) {r : Room} {number : ℕ} {filing : Filing} → nth r.histories number ≡ some filing → filing.k ≤ length filing.list
+    : (kit : Kit) {r : Room} {number : ℕ} {filing : Filing} → nth r.histories number ≡ Some filing → filing.k ≤ length filing.list
     → Sound kit r number filing → Backed kit r number
 sound_backed kit {filing} filed long v =
     record {

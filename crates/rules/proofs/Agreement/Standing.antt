@@ -1,9 +1,8 @@
 -- What stands in the record and on the counters of a correct replica at every moment of a good kit's play: its settled count, and of an active one
 -- its mark, its UPDATEs, and the COMMITs below what it accepted. Assumes nothing.
-use Rattle.std.specs.Prelude.{◌≡◌, true, false, ◌≢◌, List, ℕ, suc, ◌≤◌, ◌<◌, length, take}
+use Rattle.std.specs.Prelude.{◌≡◌, true, false, ◌≢◌, List, ℕ, suc, ◌≤◌, ◌<◌, length, take, Some}
 use Rattle.std.proofs.Common.{sym, ◌∙◌, arith}
 use Rattle.std.proofs.Math.Path.{ap}
-use Rattle.std.proofs.Math.Option.{some}
 use Rattle.std.proofs.Math.ListN.{get_or}
 use Rattle.std.proofs.Math.Seq.{length-take-le, take-take}
 use Rattle.terms.specs.Limits.{ag, up}
@@ -30,10 +29,10 @@ pub record ActiveStands (kit : Kit) (r : Room) (x : ℕ) : Type 0 where
   pub mark : is_closed (r.replica x).condition ≡ false → (r.replica x).mark ≡ mark_of (settled kit r x)
   -- its first UPDATEs are of the requests that it settled before it closed, if it did, in order, each with the mark of those up to it
   pub updates : (i : ℕ) → i < length (open_list kit r x)
-      → nth (r.counter x up) i ≡ some (Update (get_or (open_list kit r x) i 0) (mark_of (take (suc i) (open_list kit r x))))
+      → nth (r.counter x up) i ≡ Some (Update (get_or (open_list kit r x) i 0) (mark_of (take (suc i) (open_list kit r x))))
   -- below what it accepted of another than the leader stand the COMMITs of its own noted requests
   pub commits : (y i : ℕ) → y ≢ kit.leader → i < (r.replica x).accepted y ag
-      → nth (r.counter y ag) i ≡ some (Commit (get_or (r.replica x).noted i 0) (suc i))
+      → nth (r.counter y ag) i ≡ Some (Commit (get_or (r.replica x).noted i 0) (suc i))
 
 pub record Standing (kit : Kit) : Type 0 where
   -- the settled count of one that is not closed is the length of its settled list

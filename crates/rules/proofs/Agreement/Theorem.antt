@@ -3,9 +3,8 @@
 -- The numbers p and q need not be below 2f+1. That accepted bytes are a good kit is proved where the reader is.
 -- What it does not say: that anything is settled at all (Rows has plays where lists of different lengths are), or when.
 -- Assumes nothing.
-use Rattle.std.specs.Prelude.{◌≡◌, true, false, ◌⊎◌, List, ℕ, ◌≤◌, leb}
+use Rattle.std.specs.Prelude.{◌≡◌, true, false, ◌⊎◌, List, ℕ, ◌≤◌, leb, Some}
 use Rattle.std.proofs.Common.{inl, inr, ⊎_elim, arith, leb-true, leb-false}
-use Rattle.std.proofs.Math.Option.{some}
 use Rattle.terms.specs.Lists.{nth, holds, Once, ◌⊑◌}
 use Rattle.terms.specs.ListLaws.{split, sub_prefix, agree_prefix}
 use Rattle.terms.specs.Kit.{Kit, GoodKit}
@@ -31,7 +30,7 @@ pub record SettledListsAgree (kit : Kit) : Type 0 where
   -- no request stands twice
   pub no_repeats : (n p : ℕ) → Correct kit p → Once (settled_at kit n p)
   -- each was submitted by then
-  pub submitted : (n p : ℕ) → Correct kit p → (i request : ℕ) → nth (settled_at kit n p) i ≡ some request
+  pub submitted : (n p : ℕ) → Correct kit p → (i request : ℕ) → nth (settled_at kit n p) i ≡ Some request
       → holds request (after kit n).submitted ≡ true
 
 -- two moments in their order

@@ -1,7 +1,6 @@
 -- The invariant at every moment of a good kit's play, and what stands between two moments. Assumes nothing.
-use Rattle.std.specs.Prelude.{◌≡◌, refl, Bool, true, false, List, [], ◌∷◌, ℕ, zero, suc, ◌+◌, ◌-◌, ◌≤◌, take, drop}
+use Rattle.std.specs.Prelude.{◌≡◌, refl, Bool, true, false, List, [], ◌∷◌, ℕ, zero, suc, ◌+◌, ◌-◌, ◌≤◌, take, drop, Some}
 use Rattle.std.proofs.Common.{sym, arith}
-use Rattle.std.proofs.Math.Option.{some}
 use Rattle.terms.specs.Limits.{replicas}
 use Rattle.terms.specs.Lists.{pick, nth}
 use Rattle.terms.specs.ListLaws.{no_way, nth-take}
@@ -75,7 +74,7 @@ next_play kit who r a size (e ∷ es) g =
     let n = next_step kit who r a size e (g 0 e refl) in
     next_trans n (next_play kit who (step kit r e).room n.invariant size es (λ i d h. g (suc i) d h))
 
-nth_drop : (m : ℕ) (l : List Entry) (i : ℕ) {e : Entry} → nth (drop m l) i ≡ some e → nth l (m + i) ≡ some e
+nth_drop : (m : ℕ) (l : List Entry) (i : ℕ) {e : Entry} → nth (drop m l) i ≡ Some e → nth l (m + i) ≡ Some e
 nth_drop zero l i h = let z : 0 + i ≡ i = omega arith in rw z h
 nth_drop (suc m) [] i h = no_way (cc)
 nth_drop (suc m) (x ∷ l) i h = let z : suc m + i ≡ suc (m + i) = omega arith in rw z (nth_drop m l i h)

@@ -1,7 +1,6 @@
 -- The printed play, and the cases that are easy to get wrong: each row plays a kit of its own, under one theorem. In order: the kits, the rows, their
 -- proof. Assumes nothing.
-use Rattle.std.specs.Prelude.{◌≡◌, refl, List, [], ◌∷◌, ◌++◌, ℕ, zero, suc}
-use Rattle.std.proofs.Math.Option.{Option, none, some}
+use Rattle.std.specs.Prelude.{◌≡◌, refl, List, [], ◌∷◌, ◌++◌, ℕ, zero, suc, Option, None, Some, Err}
 use Rattle.terms.specs.Limits.{ag, up, sw}
 use Rattle.terms.specs.Lists.{nth}
 use Rattle.terms.specs.Kit.{Kit, Entry}
@@ -9,8 +8,9 @@ use Rattle.terms.specs.Numbers.{answer_number, kind_of}
 use Rattle.terms.specs.declared.Content.TheVariants.{Prepare, Update, History, Switch}
 use Rattle.terms.specs.declared.Condition.TheVariants.{Running, Halted, Closed}
 use Rattle.terms.specs.declared.Event.TheVariants.{Submit, Issue, Deliver, Hand, Panic, Idle, Build, File}
-use Rattle.terms.specs.declared.Answer.{Answer}
-use Rattle.terms.specs.declared.Answer.TheVariants.{Taken, SubmissionsFull, CounterFull}
+use Rattle.terms.specs.Numbers.{Answer}
+use Rattle.terms.specs.Numbers.{Taken}
+use Rattle.terms.specs.declared.Refusal.TheVariants.{SubmissionsFull, CounterFull}
 use Rattle.grammar.specs.Parser.{Read, parse}
 use Rattle.rules.specs.Reading.{settled}
 use Rattle.rules.specs.Play.{after, answer}
@@ -18,8 +18,8 @@ use Rattle.rules.proofs.Examples.Computing.{computing}
 use Rattle.rules.proofs.Examples.PaperTable.{at, kit_of, printed, filing}
 
 abbrev pub said : Option Answer → List ℕ
-said none = []
-said (some a) = answer_number a ∷ []
+said None = []
+said (Some a) = answer_number a ∷ []
 
 -- the numbers of the first n answers
 abbrev pub answers : Kit → ℕ → List ℕ
@@ -178,16 +178,16 @@ pub record EasyToGetWrong : Type 0 where
       × (settled (printed 2) (after (printed 2) 5) 2 ≡ 7 ∷ [])
   pub play_marks
       : (((after (printed 2) 5).replica 0).mark ≡ 7) × (((after (printed 2) 5).replica 1).mark ≡ 7) × (((after (printed 2) 5).replica 2).mark ≡ 7)
-  pub play_late : (after (printed 2) 5).late ≡ none
+  pub play_late : (after (printed 2) 5).late ≡ None
   -- the gap of a refused event counts, for the clock and for lateness
-  pub refused_gap : (answers (twice 9) 2 ≡ 0 ∷ 11 ∷ []) × ((after (twice 9) 2).clock ≡ 9) × ((after (twice 9) 2).late ≡ none)
-  pub refused_late : (answers (twice 10) 2 ≡ 0 ∷ 11 ∷ []) × ((after (twice 10) 2).clock ≡ 10) × ((after (twice 10) 2).late ≡ some 10)
+  pub refused_gap : (answers (twice 9) 2 ≡ 0 ∷ 11 ∷ []) × ((after (twice 9) 2).clock ≡ 9) × ((after (twice 9) 2).late ≡ None)
+  pub refused_late : (answers (twice 10) 2 ≡ 0 ∷ 11 ∷ []) × ((after (twice 10) 2).clock ≡ 10) × ((after (twice 10) 2).late ≡ Some 10)
   -- the late tick is the submission plus the patience, not the clock
-  pub late_tick : (after (twice 99) 2).late ≡ some 10
+  pub late_tick : (after (twice 99) 2).late ≡ Some 10
   -- nobody halts by it: the leader prepares what comes later, PREPARE and COMMIT are taken, the switch leader cannot build
   pub late_goes_on
       : (answers late_room 8 ≡ 0 ∷ 0 ∷ 0 ∷ 0 ∷ 24 ∷ 0 ∷ 17 ∷ 0 ∷ [])
-      × ((after late_room 2).late ≡ some 10)
+      × ((after late_room 2).late ≡ Some 10)
       × ((after late_room 2).counter 0 ag ≡ Prepare 7 ∷ Prepare 5 ∷ [])
       × (settled late_room (after late_room 4) 0 ≡ 7 ∷ [])
   -- and the PANIC halts the one that it reaches
@@ -205,22 +205,22 @@ pub record EasyToGetWrong : Type 0 where
   -- a refusal leaves the expected value as it was
   pub expected_stays : answers too_soon 4 ≡ 0 ∷ 21 ∷ 0 ∷ 0 ∷ []
   -- a pair is compared with its mark, and an answer is one UPDATE with its mark
-  pub mark_compared : (answers (other_mark 9) 7 ≡ 0 ∷ 0 ∷ 0 ∷ 0 ∷ 0 ∷ 21 ∷ 0 ∷ []) × ((after (other_mark 9) 7).late ≡ some 10)
-  pub mark_agrees : (answers (other_mark 7) 7 ≡ 0 ∷ 0 ∷ 0 ∷ 0 ∷ 0 ∷ 0 ∷ 0 ∷ []) × ((after (other_mark 7) 7).late ≡ none)
+  pub mark_compared : (answers (other_mark 9) 7 ≡ 0 ∷ 0 ∷ 0 ∷ 0 ∷ 0 ∷ 21 ∷ 0 ∷ []) × ((after (other_mark 9) 7).late ≡ Some 10)
+  pub mark_agrees : (answers (other_mark 7) 7 ≡ 0 ∷ 0 ∷ 0 ∷ 0 ∷ 0 ∷ 0 ∷ 0 ∷ []) × ((after (other_mark 7) 7).late ≡ None)
   -- the first row of the table that applies gives the answer
   pub in_order
       : answers orders 21
       ≡ 0 ∷ 0 ∷ 20 ∷ 19 ∷ 0 ∷ 18 ∷ 0 ∷ 20 ∷ 15 ∷ 17 ∷ 0 ∷ 17 ∷ 18 ∷ 0 ∷ 18 ∷ 22 ∷ 0 ∷ 15 ∷ 17 ∷ 0 ∷ 17 ∷ []
   -- a built list ends with what was submitted and not noted; who closes on it has all of it, and its mark
-  pub built_tail : nth (after orders 11).histories 0 ≡ some (record { j = 1; k = 1; list = 7 ∷ 8 ∷ [] })
+  pub built_tail : nth (after orders 11).histories 0 ≡ Some (record { j = 1; k = 1; list = 7 ∷ 8 ∷ [] })
   pub closed_on : (settled orders (after orders 20) 2 ≡ 7 ∷ 8 ∷ []) × (((after orders 20).replica 2).mark ≡ 22)
   -- what only faulty replicas may do, and what never reaches them
   pub faulty_only : answers issuing 7 ≡ 13 ∷ 21 ∷ 21 ∷ 0 ∷ 16 ∷ 16 ∷ 16 ∷ []
   -- 96 places, 64 submissions, seven histories by events 8 and one more by event 7
   pub places_full
-      : (answer (kit_of 1 (3 ∷ 1 ∷ 0 ∷ []) (issues 97)) 95 ≡ some Taken) × (answer (kit_of 1 (3 ∷ 1 ∷ 0 ∷ []) (issues 97)) 96 ≡ some CounterFull)
+      : (answer (kit_of 1 (3 ∷ 1 ∷ 0 ∷ []) (issues 97)) 95 ≡ Some Taken) × (answer (kit_of 1 (3 ∷ 1 ∷ 0 ∷ []) (issues 97)) 96 ≡ Some (Err CounterFull))
   pub submissions_full
-      : (answer (kit_of 1 (1 ∷ 1 ∷ 0 ∷ []) (submits 65)) 63 ≡ some Taken) × (answer (kit_of 1 (1 ∷ 1 ∷ 0 ∷ []) (submits 65)) 64 ≡ some SubmissionsFull)
+      : (answer (kit_of 1 (1 ∷ 1 ∷ 0 ∷ []) (submits 65)) 63 ≡ Some Taken) × (answer (kit_of 1 (1 ∷ 1 ∷ 0 ∷ []) (submits 65)) 64 ≡ Some (Err SubmissionsFull))
   pub files_full : answers files 12 ≡ 0 ∷ 0 ∷ 0 ∷ 0 ∷ 0 ∷ 0 ∷ 0 ∷ 23 ∷ 24 ∷ 0 ∷ 0 ∷ 24 ∷ []
 
 pub easy_to_get_wrong : EasyToGetWrong

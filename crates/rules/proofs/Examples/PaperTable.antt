@@ -1,9 +1,7 @@
 -- Document 01, "Both sides of the line": P1 to P12 and its two lines about f = 2, each an equation over the definitions, under one theorem. P8 is
 -- as request L3 has it. Assumes nothing.
-use Rattle.std.specs.Prelude.{◌≡◌, refl, List, [], ◌∷◌, ◌++◌, ℕ, ◌-◌, ◌^◌}
-use Rattle.std.proofs.Math.Option.{some}
-use Rattle.number.specs.Number.{number_at, fault_number}
-use Rattle.number.specs.declared.Found.TheVariants.{Number}
+use Rattle.std.specs.Prelude.{◌≡◌, refl, List, [], ◌∷◌, ◌++◌, ℕ, ◌-◌, ◌^◌, Some, Err}
+use Rattle.number.specs.Number.{Number, number_at, fault_number}
 use Rattle.grammar.specs.Parser.{parse, kit_answer}
 use Rattle.kit.specs.Reader.{numbers_in, check_of}
 use Rattle.terms.specs.Limits.{ag, up, sw}
@@ -15,7 +13,8 @@ use Rattle.terms.specs.declared.Content.TheVariants.{Commit, History}
 use Rattle.terms.specs.declared.Condition.TheVariants.{Closed}
 use Rattle.terms.specs.declared.Event.{Event}
 use Rattle.terms.specs.declared.Event.TheVariants.{Submit, Issue, Deliver, Hand, Panic, Build, File}
-use Rattle.terms.specs.declared.Answer.TheVariants.{Taken, NotNext, NotValid}
+use Rattle.terms.specs.Numbers.{Taken}
+use Rattle.terms.specs.declared.Refusal.TheVariants.{NotNext, NotValid}
 use Rattle.rules.specs.Reading.{content_at, settled}
 use Rattle.rules.specs.Play.{after, answer}
 use Rattle.rules.proofs.Examples.Computing.{computing}
@@ -95,30 +94,30 @@ pub record PaperTable : Type 0 where
   -- 2147483648, 1 give mark 1
   pub p6 : mark_of (2147483648 ∷ 1 ∷ []) ≡ 1
   -- third gap 6: clock 9, taken
-  pub p7 : ((after (printed 6) 3).clock ≡ 9) × (answer (printed 6) 2 ≡ some Taken)
+  pub p7 : ((after (printed 6) 3).clock ≡ 9) × (answer (printed 6) 2 ≡ Some Taken)
   -- third gap 7: clock 10, late 10, answer 0
-  pub p8 : ((after (printed 7) 3).clock ≡ 10) × ((after (printed 7) 3).late ≡ some 10) × (answer (printed 7) 2 ≡ some Taken)
+  pub p8 : ((after (printed 7) 3).clock ≡ 10) × ((after (printed 7) 3).late ≡ Some 10) × (answer (printed 7) 2 ≡ Some Taken)
   -- event 2 again after itself: 19
-  pub p9 : answer repeated 2 ≡ some NotNext
+  pub p9 : answer repeated 2 ≡ Some (Err NotNext)
   -- j = k = 1, HISTORY at ag value 2 and up value 2
   pub p10
-      : (nth (after switching 4).histories 0 ≡ some (record { j = 1; k = 1; list = 7 ∷ [] }))
-      × (content_at ((after switching 4).counter 1 ag) 2 ≡ some (History 0))
-      × (content_at ((after switching 4).counter 1 up) 2 ≡ some (History 0))
+      : (nth (after switching 4).histories 0 ≡ Some (record { j = 1; k = 1; list = 7 ∷ [] }))
+      × (content_at ((after switching 4).counter 1 ag) 2 ≡ Some (History 0))
+      × (content_at ((after switching 4).counter 1 up) 2 ≡ Some (History 0))
   -- the hand is taken
-  pub p11 : answer switching 5 ≡ some Taken
+  pub p11 : answer switching 5 ≡ Some Taken
   -- closed on 7
   pub p12
-      : (answer switching 6 ≡ some Taken)
+      : (answer switching 6 ≡ Some Taken)
       × (((after switching 7).replica 2).condition ≡ Closed)
       × (settled switching (after switching 7) 2 ≡ 7 ∷ [])
   -- f = 2: k = 1, j = 0, ag 2, up 1
   pub f2_built
-      : (nth (after unsettled 4).histories 0 ≡ some (record { j = 0; k = 1; list = 7 ∷ [] }))
-      × (content_at ((after unsettled 4).counter 1 ag) 2 ≡ some (History 0))
-      × (content_at ((after unsettled 4).counter 1 up) 1 ≡ some (History 0))
+      : (nth (after unsettled 4).histories 0 ≡ Some (record { j = 0; k = 1; list = 7 ∷ [] }))
+      × (content_at ((after unsettled 4).counter 1 ag) 2 ≡ Some (History 0))
+      × (content_at ((after unsettled 4).counter 1 up) 1 ≡ Some (History 0))
   -- the same with a filed k = 0 handed at ag 2: 22
-  pub f2_filed : answer (filing 0) 6 ≡ some NotValid
+  pub f2_filed : answer (filing 0) 6 ≡ Some (Err NotValid)
 
 pub paper_table : PaperTable
 unfolding computing number_at check_of numbers_in kit_answer parse kind_of

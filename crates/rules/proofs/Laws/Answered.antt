@@ -1,9 +1,8 @@
 -- Answered, in the paper's words: for some i every active replica's up value i is the same UPDATE of the request, mark included. An answered
 -- request stays answered. Assumes nothing.
-use Rattle.std.specs.Prelude.{◌≡◌, refl, Bool, true, List, [], ◌∷◌, ℕ, zero, suc, ◌≤◌, ◌<◌, length, eqb}
+use Rattle.std.specs.Prelude.{◌≡◌, refl, Bool, true, List, [], ◌∷◌, ℕ, zero, suc, ◌≤◌, ◌<◌, length, eqb, Option, Some}
 use Rattle.std.proofs.Common.{sym, ap, ◌∙◌, arith, eqb-true}
 use Rattle.std.proofs.Math.Bool.{or-true}
-use Rattle.std.proofs.Math.Option.{Option, some}
 use Rattle.std.proofs.lemmas.Bool.{eqb-false}
 use Rattle.terms.specs.Limits.{up}
 use Rattle.terms.specs.Lists.{nth, holds, all_of, any_below}
@@ -47,7 +46,7 @@ all_holds l t e y h = let n = holds_nth l y h in all_of_at l t e n.0 y n.1
 pub record AnswerOf (kit : Kit) (r : Room) (request : ℕ) : Type 0 where
   pub i : ℕ
   pub mark : ℕ
-  pub same : (y : ℕ) → holds y (actives kit) ≡ true → nth (r.counter y up) i ≡ some (Update request mark)
+  pub same : (y : ℕ) → holds y (actives kit) ≡ true → nth (r.counter y up) i ≡ Some (Update request mark)
 
 pub answered_has : (kit : Kit) (r : Room) (request : ℕ) → answered kit r request ≡ true → AnswerOf kit r request
 unfolding answered answered_at
@@ -66,7 +65,7 @@ has_answered kit ro r request a =
     let own = a.same kit.leader (ro.active_listed kit.leader ro.leader_active) in
     any_at (length (r.counter kit.leader up)) (λ i. answered_at kit r request (suc i)) a.i (nth-lt (r.counter kit.leader up) a.i own)
     (all_from (actives kit) _ (λ y h. is_content_self {o = nth (r.counter y up) a.i}
-    (a.same y h ∙ ap (λ (c : Option Content). some (Update request (second_of c))) (sym own))))
+    (a.same y h ∙ ap (λ (c : Option Content). Some (Update request (second_of c))) (sym own))))
 
 -- ---- it goes by what is issued alone
 
@@ -92,7 +91,7 @@ answered_at_stays kit r r₁ g request i l e =
     let marks : second_of (nth (r.counter kit.leader up) i) ≡ second_of (nth (r₁.counter kit.leader up) i) = ap second_of (own.1 ∙ sym own₁) in
     all_from (actives kit) _
     (λ y h. let was = is_content_same (nth (r.counter y up) i) _ (all_holds (actives kit) _ e y h) in
-    is_content_self {o = nth (r₁.counter y up) i} (g.counters y up i _ was ∙ ap (λ (m : ℕ). some (Update request m)) marks))
+    is_content_self {o = nth (r₁.counter y up) i} (g.counters y up i _ was ∙ ap (λ (m : ℕ). Some (Update request m)) marks))
 
 pub answered_stays : (kit : Kit) (r r₁ : Room) → Grows r r₁ → (request : ℕ) → answered kit r request ≡ true → answered kit r₁ request ≡ true
 unfolding answered

@@ -1,7 +1,6 @@
 -- No event adds more than three certificates: the counters after it are those before it with at most three issued. Assumes nothing.
-use Rattle.std.specs.Prelude.{◌≡◌, refl, List, [], ◌∷◌, ◌++◌, ℕ, suc, ◌≤◌, length}
+use Rattle.std.specs.Prelude.{◌≡◌, refl, List, [], ◌∷◌, ◌++◌, ℕ, suc, ◌≤◌, length, Some}
 use Rattle.std.proofs.Common.{ap, ◌∙◌}
-use Rattle.std.proofs.Math.Option.{some}
 use Rattle.terms.specs.Lists.{nth}
 use Rattle.terms.specs.Kit.{Kit, Entry}
 use Rattle.terms.specs.declared.Content.{Content}
@@ -45,5 +44,5 @@ at_most_three kit r e =
     }
 
 -- the same at a moment of a play
-pub at_most_three_after : (kit : Kit) (n : ℕ) (e : Entry) → nth kit.events n ≡ some e → AtMostThree (after kit n) (after kit (suc n))
+pub at_most_three_after : (kit : Kit) (n : ℕ) (e : Entry) → nth kit.events n ≡ Some e → AtMostThree (after kit n) (after kit (suc n))
 at_most_three_after kit n e h = rw (after_suc kit n e h) (at_most_three kit (after kit n) e)

@@ -1,15 +1,16 @@
 -- What an event can do to the room that it is handed: nothing if it is refused; else a few changes, of which at most three issue a
 -- certificate. What refusals, certificates, clock and ticks obey comes from `event_comes`. Assumes nothing.
-use Rattle.std.specs.Prelude.{◌≡◌, refl, Bool, true, false, ◌≢◌, List, [], ◌∷◌, ℕ, ◌≤◌, length, leb, ltb}
+use Rattle.std.specs.Prelude.{◌≡◌, refl, Bool, true, false, ◌≢◌, List, [], ◌∷◌, ℕ, ◌≤◌, length, leb, ltb, Ok, Err}
 use Rattle.std.proofs.Common.{arith}
 use Rattle.terms.specs.Limits.{ag, sw}
 use Rattle.terms.specs.Lists.{pick}
 use Rattle.terms.specs.Kit.{Kit}
 use Rattle.terms.specs.declared.Content.{Content}
 use Rattle.terms.specs.declared.Event.{Event}
-use Rattle.terms.specs.declared.Answer.TheVariants.{Taken}
+use Rattle.terms.specs.Numbers.{Taken}
 use Rattle.terms.specs.declared.Act.{Act}
-use Rattle.terms.specs.declared.Decision.{Decision}
+use Rattle.terms.specs.Numbers.{Decision}
+use Rattle.terms.specs.declared.Deed.{Deed}
 use Rattle.rules.specs.Room.{Room, Replica, Filing, with_replica, with_history, remember, issue, accept}
 use Rattle.rules.specs.Reading.{is_running}
 use Rattle.rules.specs.Outcome.{Outcome, taken}
@@ -123,14 +124,14 @@ few_acted kit r x Act.Panic = few_recorded x _
 -- whatever was decided
 comes_done : (kit : Kit) (r : Room) (x : ℕ) (list : List ℕ) (d : Decision) → Comes r (done kit r x list d)
 unfolding carried_out after_build after_file
-comes_done kit r x list (Decision.Refuse answer) = record { refused = λ d. refl; few = record { changes = []; few = no; gives = refl } }
-comes_done kit r x list (Decision.Submit request) = comes_taken (few_submit kit r request)
-comes_done kit r x list (Decision.Issue y name content) = comes_taken (record { changes = issued y name content ∷ []; few = one; gives = refl })
-comes_done kit r x list (Decision.Act act) = comes_taken (few_acted kit r x act)
-comes_done kit r x list Decision.Idle = comes_taken (record { changes = []; few = no; gives = refl })
-comes_done kit r x list (Decision.Build j k) =
+comes_done kit r x list (Err answer) = record { refused = λ d. refl; few = record { changes = []; few = no; gives = refl } }
+comes_done kit r x list (Ok (Deed.Submit request)) = comes_taken (few_submit kit r request)
+comes_done kit r x list (Ok (Deed.Issue y name content)) = comes_taken (record { changes = issued y name content ∷ []; few = one; gives = refl })
+comes_done kit r x list (Ok (Deed.Act act)) = comes_taken (few_acted kit r x act)
+comes_done kit r x list (Ok Deed.Idle) = comes_taken (record { changes = []; few = no; gives = refl })
+comes_done kit r x list (Ok (Deed.Build j k)) =
     comes_taken (record { changes = filed _ _ ∷ recorded _ _ ∷ issued _ _ _ ∷ issued _ _ _ ∷ issued _ _ _ ∷ []; few = three; gives = refl })
-comes_done kit r x list (Decision.File j k) = comes_taken (record { changes = filed _ _ ∷ []; few = no; gives = refl })
+comes_done kit r x list (Ok (Deed.File j k)) = comes_taken (record { changes = filed _ _ ∷ []; few = no; gives = refl })
 
 pub event_comes : (kit : Kit) (r : Room) (e : Event) (list : List ℕ) → Comes r (on_event kit r e list)
 unfolding on_event

@@ -1,10 +1,9 @@
 -- Two neighbouring deliveries of a kit exchanged, the second of which has gap 0, to different receivers and of certificates that were issued before
 -- either; the gap stays in front. Both are good kits or neither is; every room before the two and after them is the same, the two answers go with
 -- their events, and every other answer is the same. Places and moments are counted from 0. Assumes nothing.
-use Rattle.std.specs.Prelude.{◌≡◌, true, ◌≢◌, List, [], ◌∷◌, ℕ, suc, ◌+◌, ◌-◌, ◌≤◌, ◌<◌, length}
+use Rattle.std.specs.Prelude.{◌≡◌, true, ◌≢◌, List, [], ◌∷◌, ℕ, suc, ◌+◌, ◌-◌, ◌≤◌, ◌<◌, length, Some}
 use Rattle.std.proofs.Math.Path.{sym}
 use Rattle.std.proofs.Common.{ap, ◌∙◌, arith}
-use Rattle.std.proofs.Math.Option.{some}
 use Rattle.terms.specs.Limits.{replicas}
 use Rattle.terms.specs.Lists.{nth}
 use Rattle.terms.specs.ListLaws.{nth-lt}
@@ -67,11 +66,11 @@ module _ {n : ℕ} {kit kit₁ : Kit} {e d : Entry} {new : List Entry} (i : Inst
   room_between : after kit (suc n) ≡ (step kit (after kit n) e).room
   room_between = after_suc kit n e (first_stands i)
 
-  answer_one : answer kit n ≡ some (step kit (after kit n) e).answer
+  answer_one : answer kit n ≡ Some (step kit (after kit n) e).answer
   unfolding answer
   answer_one = rw (first_stands i)
 
-  answer_two : answer kit (suc n) ≡ some (step kit (step kit (after kit n) e).room d).answer
+  answer_two : answer kit (suc n) ≡ Some (step kit (step kit (after kit n) e).room d).answer
   unfolding answer
   answer_two = rw (second_stands i, room_between)
 
@@ -103,13 +102,13 @@ module _ {n : ℕ} {kit kit₁ : Kit} (x : Exchanged n kit kit₁) where
         same_step (after kit n) (delivery x.gap x.second),
         same_step (step kit (after kit n) (delivery x.gap x.second)).room (delivery 0 x.first),
       )
-      (ap some free.answer_a)
+      (ap Some free.answer_a)
       ∙ sym (answer_one x.instead)
 
   second_goes : answer kit₁ n ≡ answer kit (suc n)
   second_goes =
       answer_one (back x.instead)
-      ∙ rw (same_here, same_step (after kit n) (delivery x.gap x.second)) (ap some (sym free.answer_b))
+      ∙ rw (same_here, same_step (after kit n) (delivery x.gap x.second)) (ap Some (sym free.answer_b))
       ∙ sym (answer_two x.instead)
 
   -- as many events
@@ -149,7 +148,7 @@ exchanged_good {n} {kit} {kit₁} x good =
 
 -- the deliveries at places n and n+1 of a kit in hand
 pub exchange
-    : (kit : Kit) (n gap : ℕ) (a b : Delivery) → nth kit.events n ≡ some (delivery gap a) → nth kit.events (suc n) ≡ some (delivery 0 b)
+    : (kit : Kit) (n gap : ℕ) (a b : Delivery) → nth kit.events n ≡ Some (delivery gap a) → nth kit.events (suc n) ≡ Some (delivery 0 b)
     → a.to ≢ b.to → is_issued (after kit n) a ≡ true → is_issued (after kit n) b ≡ true
     → Exchanged n kit (replace n 2 (delivery gap b ∷ delivery 0 a ∷ []) kit)
 exchange kit n gap a b one two apart a-there b_there =

@@ -1,8 +1,7 @@
 -- Two deliveries exchanged, by computation: a pair that meets the law's premises, each to the sender of the other, of which one issues on the counter
 -- that the other is read from, and at the first of which somebody gets late; a pair with a refusal; and three pairs that each miss one premise, and
 -- do differ. Assumes nothing.
-use Rattle.std.specs.Prelude.{◌≡◌, refl, List, [], ◌∷◌, ℕ}
-use Rattle.std.proofs.Math.Option.{none, some}
+use Rattle.std.specs.Prelude.{◌≡◌, refl, List, [], ◌∷◌, ℕ, None, Some}
 use Rattle.std.proofs.Common.{arith}
 use Rattle.grammar.specs.Parser.{parse}
 use Rattle.grammar.specs.ParserLaws.{accepted_good}
@@ -50,8 +49,8 @@ pub record ExchangeRows : Type 0 where
   pub exchanging : replace 3 2 (delivery 12 (cert 1 ag 1 0) ∷ delivery 0 (cert 0 ag 2 1) ∷ []) crossing ≡ crossed
   pub premises : Exchanged 3 crossing crossed
   -- lateness strikes at the first of the two, whichever that is
-  pub late_none : ((after crossing 3).late ≡ none) × ((after crossed 3).late ≡ none)
-  pub late_first : ((after crossing 4).late ≡ some 10) × ((after crossed 4).late ≡ some 10)
+  pub late_none : ((after crossing 3).late ≡ None) × ((after crossed 3).late ≡ None)
+  pub late_first : ((after crossing 4).late ≡ Some 10) × ((after crossed 4).late ≡ Some 10)
   pub answers_same : (answers crossing 6 ≡ 0 ∷ 0 ∷ 0 ∷ 0 ∷ 0 ∷ 11 ∷ []) × (answers crossed 6 ≡ 0 ∷ 0 ∷ 0 ∷ 0 ∷ 0 ∷ 11 ∷ [])
   -- the rooms between the two do differ: the receiver of the first has issued, that of the second has not yet
   pub between : ((after crossing 4).counter 1 ag ≡ Commit 7 1 ∷ Commit 5 2 ∷ []) × ((after crossed 4).counter 1 ag ≡ Commit 7 1 ∷ [])
@@ -71,8 +70,8 @@ pub record ExchangeRows : Type 0 where
       ≡ 0 ∷ 0 ∷ 0 ∷ 0 ∷ 19 ∷ 0 ∷ [])
   -- the second has a gap: late none, exchanged late 10
   pub second_gap
-      : ((after (three_then (delivery 9 (cert 1 ag 1 0) ∷ delivery 1 (cert 1 up 1 2) ∷ [])) 4).late ≡ none)
-      × ((after (three_then (delivery 9 (cert 1 up 1 2) ∷ delivery 1 (cert 1 ag 1 0) ∷ [])) 4).late ≡ some 10)
+      : ((after (three_then (delivery 9 (cert 1 ag 1 0) ∷ delivery 1 (cert 1 up 1 2) ∷ [])) 4).late ≡ None)
+      × ((after (three_then (delivery 9 (cert 1 up 1 2) ∷ delivery 1 (cert 1 ag 1 0) ∷ [])) 4).late ≡ Some 10)
 
 pub exchange_rows : ExchangeRows
 unfolding computing with_events same_table replace

@@ -4,7 +4,7 @@
 -- Assumes nothing.
 use Rattle.std.proofs.Common.{◌≡◌, refl, ◌||◌, ◌≢◌, List, [], ◌∷◌, ℕ, suc, ◌≤◌, ◌<◌, length, take, eqb, sym, ap, ◌∙◌, eqb-true, ne_eqb, arith}
 use Rattle.std.proofs.Math.Bool.{true, false, and-false, or-true}
-use Rattle.std.proofs.Math.Option.{Option, none, some}
+use Rattle.std.specs.Prelude.{Option, None, Some, Ok, Err}
 use Rattle.terms.specs.Limits.{ag, up, sw, name_max, filed_max}
 use Rattle.terms.specs.Lists.{nth, is_some}
 use Rattle.terms.specs.ListLaws.{split, no_way, length-snoc, or_l, eqb_same, or_r}
@@ -13,8 +13,10 @@ use Rattle.terms.specs.declared.Content.{Content}
 use Rattle.terms.specs.declared.Event.{Event}
 use Rattle.terms.specs.declared.Event.TheVariants.{Build}
 use Rattle.terms.specs.declared.Act.{Act}
-use Rattle.terms.specs.declared.Decision.{Decision}
-use Rattle.terms.specs.declared.Answer.TheVariants.{Taken, CannotBuild}
+use Rattle.terms.specs.Numbers.{Decision}
+use Rattle.terms.specs.declared.Deed.{Deed}
+use Rattle.terms.specs.Numbers.{Taken}
+use Rattle.terms.specs.declared.Refusal.TheVariants.{CannotBuild}
 use Rattle.rules.specs.Table.{switch_leader}
 use Rattle.rules.specs.Room.{Room, Replica, Filing, fresh_room, fresh_replica, with_replica, issue, with_history, hold}
 use Rattle.rules.specs.Reading.{is_running, is_faulty}
@@ -31,13 +33,13 @@ use Rattle.rules.proofs.Laws.Holding.{tick_keeps, after_keeps}
 
 -- what a correct replica has issued on sw
 pub record Switched (p : Replica) (sws : List Content) : Type 0 where
-  pub silent : p.held ≡ none → sws ≡ []
+  pub silent : p.held ≡ None → sws ≡ []
   pub once : length sws ≤ 1
 
 pub record FilesFew (kit : Kit) (r : Room) : Type 0 where
   pub filed_few : r.filed ≤ filed_max
   pub histories_few : length r.histories ≤ suc r.filed
-  pub unbuilt : (r.replica (switch_leader kit)).held ≡ none → length r.histories ≡ r.filed
+  pub unbuilt : (r.replica (switch_leader kit)).held ≡ None → length r.histories ≡ r.filed
   pub switched : (x : ℕ) → is_faulty (r.replica x).condition ≡ false → Switched (r.replica x) (r.counter x sw)
   pub faulty_few : FaultyFew r
   -- and a correct replica has no other counters
@@ -72,7 +74,7 @@ few_file kit r h j k list l =
 
 -- correct replica x, which held nothing, holds h and issues SWITCH of it
 module _ (kit : Kit) (r : Room) (few : FilesFew kit r) (x h : ℕ)
-    (fx : is_faulty (r.replica x).condition ≡ false) (free : (r.replica x).held ≡ none) where
+    (fx : is_faulty (r.replica x).condition ≡ false) (free : (r.replica x).held ≡ None) where
   switched_hold : (y : ℕ) → is_faulty ((after_hand r x h).replica y).condition ≡ false
       → Switched ((after_hand r x h).replica y) ((after_hand r x h).counter y sw)
   unfolding after_hand issue with_replica hold
@@ -98,7 +100,7 @@ module _ (kit : Kit) (r : Room) (few : FilesFew kit r) (x h : ℕ)
       (λ t. few.unnamed y n (rw t at d) l))
 
 few_hold : (kit : Kit) (r : Room) → FilesFew kit r → (x h : ℕ) → x ≢ switch_leader kit → is_faulty (r.replica x).condition ≡ false
-    → (r.replica x).held ≡ none
+    → (r.replica x).held ≡ None
     → FilesFew kit (after_hand r x h)
 unfolding after_hand issue with_replica
 few_hold kit r few x h d fx free =
@@ -112,14 +114,14 @@ few_hold kit r few x h d fx free =
     }
 
 few_build : (kit : Kit) (r : Room) → FilesFew kit r → (filing : Filing) → is_faulty (r.replica (switch_leader kit)).condition ≡ false
-    → (r.replica (switch_leader kit)).held ≡ none → FilesFew kit (after_build r (switch_leader kit) filing)
+    → (r.replica (switch_leader kit)).held ≡ None → FilesFew kit (after_build r (switch_leader kit) filing)
 unfolding after_build issue with_replica with_history hold
 few_build kit r few filing fs free =
     let s = switch_leader kit in
     record {
       filed_few = few.filed_few;
       histories_few = omega (arith, length-snoc r.histories filing, few.unbuilt free);
-      unbuilt = λ z. let z₁ : ◌≡◌ {A = Option ℕ} (some (length r.histories)) none = rw (eqb_same s) at z in no_way (cc);
+      unbuilt = λ z. let z₁ : ◌≡◌ {A = Option ℕ} (Some (length r.histories)) None = rw (eqb_same s) at z in no_way (cc);
       switched = λ y f.
           split (eqb y s)
           (λ t. rw (t, (few.switched s fs).silent free) (record { silent = λ z. no_way (cc); once = omega arith }))
@@ -146,13 +148,13 @@ module _ (kit : Kit) (r : Room) (few : FilesFew kit r) (e : Event) (x : ℕ) whe
 
   few_carried : (d : Decision) (list : List ℕ) → Tested kit r e x d → FilesFew kit (carried_out kit r x d list)
   unfolding carried_out
-  few_carried (Decision.Refuse answer) list t = few
-  few_carried (Decision.Submit request) list t = few_calm kit (calm_submit kit r request) few
-  few_carried (Decision.Issue y name content) list t = few_calm kit (calm_faulty_issue kit r e x y name content t) few
-  few_carried (Decision.Act act) list t = few_acted act t
-  few_carried Decision.Idle list t = few
-  few_carried (Decision.Build j k) list t = rw t.leads (few_build kit r few _ (rw t.leads at t.correct) (rw t.leads at t.free))
-  few_carried (Decision.File j k) list t = few_file kit r few j k list t.few
+  few_carried (Err answer) list t = few
+  few_carried (Ok (Deed.Submit request)) list t = few_calm kit (calm_submit kit r request) few
+  few_carried (Ok (Deed.Issue y name content)) list t = few_calm kit (calm_faulty_issue kit r e x y name content t) few
+  few_carried (Ok (Deed.Act act)) list t = few_acted act t
+  few_carried (Ok Deed.Idle) list t = few
+  few_carried (Ok (Deed.Build j k)) list t = rw t.leads (few_build kit r few _ (rw t.leads at t.correct) (rw t.leads at t.free))
+  few_carried (Ok (Deed.File j k)) list t = few_file kit r few j k list t.few
 
 few_event : (kit : Kit) (r : Room) → FilesFew kit r → (e : Event) (list : List ℕ) → FilesFew kit (on_event kit r e list).room
 unfolding on_event
@@ -187,7 +189,7 @@ files_few kit n = few_play kit (fresh_room kit) (few_fresh kit) (take n kit.even
 -- ---- event 7
 
 -- taken, the switch leader holds the history that it filed
-pub built_held : (kit : Kit) (r : Room) → ((after_build r (switch_leader kit) (built kit r)).replica (switch_leader kit)).held ≡ some (length r.histories)
+pub built_held : (kit : Kit) (r : Room) → ((after_build r (switch_leader kit) (built kit r)).replica (switch_leader kit)).held ≡ Some (length r.histories)
 unfolding after_build issue with_replica hold
 built_held kit r = rw (eqb_same (switch_leader kit))
 
@@ -195,7 +197,7 @@ module _ (kit : Kit) (r : Room) where
   -- a room in which event 7 is taken
   pub record CanBuild (list : List ℕ) : Type 0 where
     pub correct : is_faulty (r.replica (switch_leader kit)).condition ≡ false
-    pub free : (r.replica (switch_leader kit)).held ≡ none
+    pub free : (r.replica (switch_leader kit)).held ≡ None
     pub leaves : (on_event kit r Build list).room ≡ after_build r (switch_leader kit) (built kit r)
 
   pub taken_can : (list : List ℕ) → (on_event kit r Build list).answer ≡ Taken → CanBuild list
@@ -212,20 +214,20 @@ module _ (kit : Kit) (r : Room) where
       })
 
   -- while it holds one, event 7 is refused
-  holding_refuses : (list : List ℕ) (h : ℕ) → (r.replica (switch_leader kit)).held ≡ some h → (on_event kit r Build list).answer ≡ CannotBuild
+  holding_refuses : (list : List ℕ) (h : ℕ) → (r.replica (switch_leader kit)).held ≡ Some h → (on_event kit r Build list).answer ≡ Err CannotBuild
   unfolding on_event decide decide_build refuse_if
   holding_refuses list h e = simp (e, or-true)
 
 -- so it is taken once at the most
 pub build_once : (kit : Kit) (m n gap gap₁ : ℕ) (list list₁ : List ℕ) → m < n
-    → nth kit.events m ≡ some (record { gap = gap; event = Build; requests = list }) → answer kit m ≡ some Taken
-    → nth kit.events n ≡ some (record { gap = gap₁; event = Build; requests = list₁ }) → answer kit n ≡ some CannotBuild
+    → nth kit.events m ≡ Some (record { gap = gap; event = Build; requests = list }) → answer kit m ≡ Some Taken
+    → nth kit.events n ≡ Some (record { gap = gap₁; event = Build; requests = list₁ }) → answer kit n ≡ Some (Err CannotBuild)
 unfolding answer step
 build_once kit m n gap gap₁ list list₁ l em t en =
     let found = tick kit (after kit m) gap in
-    let t₁ : some (on_event kit found Build list).answer ≡ some Taken = rw em at t in
+    let t₁ : Some (on_event kit found Build list).answer ≡ Some Taken = rw em at t in
     let leaves = (taken_can kit found list (cc t₁)).leaves in
-    let held : ((after kit (suc m)).replica (switch_leader kit)).held ≡ some (length found.histories) =
+    let held : ((after kit (suc m)).replica (switch_leader kit)).held ≡ Some (length found.histories) =
     rw (after_suc kit m _ em, leaves) (built_held kit found) in
     let later = (after_keeps kit (suc m) n l).held (switch_leader kit) _ held in
-    rw en (ap some (holding_refuses kit (tick kit (after kit n) gap₁) list₁ _ ((tick_keeps kit (after kit n) gap₁).held (switch_leader kit) _ later)))
+    rw en (ap Some (holding_refuses kit (tick kit (after kit n) gap₁) list₁ _ ((tick_keeps kit (after kit n) gap₁).held (switch_leader kit) _ later)))

@@ -1,13 +1,13 @@
 -- The first laws of the rules on one page: what holds at every moment of the play of a kit, whatever its events are. A moment is a number of
 -- events played. The last group is of kits that document 01 allows. Each is proved in the file that its line of `use` names. Assumes nothing.
-use Rattle.std.specs.Prelude.{◌≡◌, true, ◌≢◌, List, ℕ, suc, ◌+◌, ◌≤◌, ◌<◌, take}
-use Rattle.std.proofs.Math.Option.{some}
+use Rattle.std.specs.Prelude.{◌≡◌, true, ◌≢◌, List, ℕ, suc, ◌+◌, ◌≤◌, ◌<◌, take, Some, Err}
 use Rattle.terms.specs.Lists.{nth}
 use Rattle.terms.specs.Kit.{Kit, Entry, GoodKit}
 use Rattle.terms.specs.declared.Condition.TheVariants.{Halted}
 use Rattle.terms.specs.declared.Event.TheVariants.{Build}
-use Rattle.terms.specs.declared.Answer.{Answer}
-use Rattle.terms.specs.declared.Answer.TheVariants.{Taken, CannotBuild}
+use Rattle.terms.specs.Numbers.{Answer}
+use Rattle.terms.specs.Numbers.{Taken}
+use Rattle.terms.specs.declared.Refusal.TheVariants.{CannotBuild}
 use Rattle.rules.specs.Reading.{answered}
 use Rattle.rules.specs.Clock.{tick}
 use Rattle.rules.specs.Outcome.{taken}
@@ -32,14 +32,14 @@ use Rattle.rules.proofs.Agreement.Sizes.{Bounds, bounds, settles_one}
 pub record FirstLaws (kit : Kit) : Type 0 where
   -- an event with another answer than Taken leaves the ticked room
   pub refused
-      : (n : ℕ) (e : Entry) (a : Answer) → nth kit.events n ≡ some e → answer kit n ≡ some a → a ≢ Taken
+      : (n : ℕ) (e : Entry) (a : Answer) → nth kit.events n ≡ Some e → answer kit n ≡ Some a → a ≢ Taken
       → after kit (suc n) ≡ tick kit (after kit n) e.gap
   -- and so changes nothing but the clock and the late tick
   pub refused_only
-      : (n : ℕ) (e : Entry) (a : Answer) → nth kit.events n ≡ some e → answer kit n ≡ some a → a ≢ Taken → Ticked (after kit n) e.gap (after kit (suc n))
+      : (n : ℕ) (e : Entry) (a : Answer) → nth kit.events n ≡ Some e → answer kit n ≡ Some a → a ≢ Taken → Ticked (after kit n) e.gap (after kit (suc n))
   -- a replica halts only at a PANIC that it takes
   pub halts
-      : (n : ℕ) (e : Entry) (a : Answer) (x : ℕ) → nth kit.events n ≡ some e → answer kit n ≡ some a
+      : (n : ℕ) (e : Entry) (a : Answer) (x : ℕ) → nth kit.events n ≡ Some e → answer kit n ≡ Some a
       → ((after kit n).replica x).condition ≢ Halted → ((after kit (suc n)).replica x).condition ≡ Halted → TakenPanic e.event a x
   -- the patience decides the late tick and nothing else
   pub patience_room : (patience n : ℕ) → ButLate (after kit n) (after (with_patience kit patience) n)
@@ -47,11 +47,11 @@ pub record FirstLaws (kit : Kit) : Type 0 where
   -- counters, submissions, ticks and histories only grow, and what stands at a value or place stays
   pub grows : (m n : ℕ) → m ≤ n → Grows (after kit m) (after kit n)
   -- no event adds more than three certificates
-  pub certificates : (n : ℕ) (e : Entry) → nth kit.events n ≡ some e → AtMostThree (after kit n) (after kit (suc n))
+  pub certificates : (n : ℕ) (e : Entry) → nth kit.events n ≡ Some e → AtMostThree (after kit n) (after kit (suc n))
   -- the clock is the sum of the gaps
   pub clock : (n : ℕ) → (after kit n).clock ≡ gaps (take n kit.events)
   -- late once is late for ever at that tick
-  pub late : (t m n : ℕ) → m ≤ n → (after kit m).late ≡ some t → (after kit n).late ≡ some t
+  pub late : (t m n : ℕ) → m ≤ n → (after kit m).late ≡ Some t → (after kit n).late ≡ Some t
   -- ticks never fall along the submissions, and none is past the clock
   pub ticks : (n : ℕ) → Timed (after kit n)
   -- an idle of a ticks and then one of b leave the room, and have the answer, of one of a+b
@@ -74,14 +74,14 @@ pub record FirstLaws (kit : Kit) : Type 0 where
   pub answers : (m n : ℕ) → m ≤ n → (request : ℕ) → answered kit (after kit m) request ≡ true → answered kit (after kit n) request ≡ true
   -- event 7 is taken at most once
   pub built_once
-      : (m n gap gap₁ : ℕ) (list list₁ : List ℕ) → m < n → nth kit.events m ≡ some (record { gap = gap; event = Build; requests = list })
-      → answer kit m ≡ some Taken → nth kit.events n ≡ some (record { gap = gap₁; event = Build; requests = list₁ }) → answer kit n ≡ some CannotBuild
+      : (m n gap gap₁ : ℕ) (list list₁ : List ℕ) → m < n → nth kit.events m ≡ Some (record { gap = gap; event = Build; requests = list })
+      → answer kit m ≡ Some Taken → nth kit.events n ≡ Some (record { gap = gap₁; event = Build; requests = list₁ }) → answer kit n ≡ Some (Err CannotBuild)
 
 pub record FirstBounds (kit : Kit) : Type 0 where
   -- a correct replica's counters hold at most 65, 65 and 1; at most 64 submitted, at most 8 histories filed
   pub room : (n : ℕ) → Bounds kit (after kit n)
   -- the settled count rises by at most one an event
-  pub count : (n : ℕ) (e : Entry) → nth kit.events n ≡ some e → (x : ℕ) → count_in kit (after kit (suc n)) x ≤ suc (count_in kit (after kit n) x)
+  pub count : (n : ℕ) (e : Entry) → nth kit.events n ≡ Some e → (x : ℕ) → count_in kit (after kit (suc n)) x ≤ suc (count_in kit (after kit n) x)
 
 pub first_laws : (kit : Kit) → FirstLaws kit
 first_laws kit =

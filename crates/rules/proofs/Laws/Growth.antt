@@ -1,8 +1,7 @@
 -- Counters, submissions, their ticks and histories only grow, in every play: what stands at a value or place stands there for ever.
 -- Assumes nothing.
-use Rattle.std.specs.Prelude.{◌≡◌, refl, true, ◌&&◌, List, [], ◌∷◌, ◌++◌, ℕ, zero, suc, ◌+◌, ◌-◌, ◌≤◌, take, drop, eqb}
+use Rattle.std.specs.Prelude.{◌≡◌, refl, true, ◌&&◌, List, [], ◌∷◌, ◌++◌, ℕ, zero, suc, ◌+◌, ◌-◌, ◌≤◌, take, drop, eqb, Some}
 use Rattle.std.proofs.Common.{ap, ◌∙◌, arith, take-add, eqb-true}
-use Rattle.std.proofs.Math.Option.{some}
 use Rattle.terms.specs.Lists.{nth, holds, Sub}
 use Rattle.terms.specs.ListLaws.{no_way, pick_elim, and_l, and_r, nth-append, holds_nth, holds_at}
 use Rattle.terms.specs.Kit.{Kit, Entry}
@@ -74,7 +73,7 @@ unfolding issue
 grows_issue r x name c =
     record {
       counters = λ y n i d e.
-          pick_elim (λ l. nth l i ≡ some d) (eqb n name && eqb y x)
+          pick_elim (λ l. nth l i ≡ Some d) (eqb n name && eqb y x)
           (λ t. let a = eqb-true n name (and_l (eqb n name) (eqb y x) t) in
           let b = eqb-true y x (and_r (eqb n name) (eqb y x) t) in
           nth-append (r.counter x name) (c ∷ []) i (rw (a, b) at e))
@@ -128,13 +127,13 @@ after_later kit m n l =
     ∙ ap (play kit (fresh_room kit)) (take-add m (n - m) kit.events)
     ∙ play_append kit (fresh_room kit) (take m kit.events) (take (n - m) (drop m kit.events))
 
-take_snoc : (l : List Entry) (n : ℕ) (e : Entry) → nth l n ≡ some e → take (suc n) l ≡ take n l ++ (e ∷ [])
+take_snoc : (l : List Entry) (n : ℕ) (e : Entry) → nth l n ≡ Some e → take (suc n) l ≡ take n l ++ (e ∷ [])
 take_snoc [] n e h = no_way (cc)
 take_snoc (x ∷ l) zero e h = let z : x ≡ e = cc in rw z
 take_snoc (x ∷ l) (suc n) e h = ap (λ (z : List Entry). x ∷ z) (take_snoc l n e h)
 
 -- one event more
-pub after_suc : (kit : Kit) (n : ℕ) (e : Entry) → nth kit.events n ≡ some e → after kit (suc n) ≡ (step kit (after kit n) e).room
+pub after_suc : (kit : Kit) (n : ℕ) (e : Entry) → nth kit.events n ≡ Some e → after kit (suc n) ≡ (step kit (after kit n) e).room
 unfolding after play
 after_suc kit n e h =
     ap (play kit (fresh_room kit)) (take_snoc kit.events n e h) ∙ play_append kit (fresh_room kit) (take n kit.events) (e ∷ [])

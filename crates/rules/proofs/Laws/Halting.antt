@@ -1,9 +1,8 @@
 -- A replica halts at a PANIC that it takes and by nothing else: neither lateness nor another event halts anybody. Assumes nothing.
-use Rattle.std.specs.Prelude.{◌≡◌, ◌≢◌, ◌⊎◌, List, ℕ, suc, eqb, leb, ltb}
+use Rattle.std.specs.Prelude.{◌≡◌, ◌≢◌, ◌⊎◌, List, ℕ, suc, eqb, leb, ltb, Some, Ok, Err}
 use Rattle.std.proofs.Math.Path.{refl}
 use Rattle.std.proofs.Common.{sym, ap, ◌∙◌, ⊎_elim, eqb-true}
 use Rattle.std.proofs.Math.Logic.{inl, inr}
-use Rattle.std.proofs.Math.Option.{some}
 use Rattle.terms.specs.Limits.{sw}
 use Rattle.terms.specs.Lists.{nth}
 use Rattle.terms.specs.ListLaws.{split, pick_elim, no_way}
@@ -12,9 +11,10 @@ use Rattle.terms.specs.declared.Condition.TheVariants.{Halted}
 use Rattle.terms.specs.declared.Event.{Event}
 use Rattle.terms.specs.declared.Event.TheVariants.{Panic}
 use Rattle.terms.specs.declared.Act.{Act}
-use Rattle.terms.specs.declared.Decision.{Decision}
-use Rattle.terms.specs.declared.Answer.{Answer}
-use Rattle.terms.specs.declared.Answer.TheVariants.{Taken}
+use Rattle.terms.specs.Numbers.{Decision}
+use Rattle.terms.specs.declared.Deed.{Deed}
+use Rattle.terms.specs.Numbers.{Answer}
+use Rattle.terms.specs.Numbers.{Taken}
 use Rattle.rules.specs.Room.{Room, Replica, put1, with_replica, with_history, remember, issue, with_condition, with_mark, note, note_pair, accept, hold}
 use Rattle.rules.specs.Reading.{is_running}
 use Rattle.rules.specs.Outcome.{answer_of}
@@ -83,7 +83,7 @@ module _ (kit : Kit) (r : Room) (e : Event) (y : ℕ) where
   acted_nobody Act.Panic t =
       inr (λ x h. split (eqb x y) (λ is. rw (eqb-true x y is) t.event) (λ other. absurd (h.0 (rw other at h.1))))
 
-  nobody_builds : (j k : ℕ) (list : List ℕ) → NobodyHalts r (carried_out kit r y (Decision.Build j k) list)
+  nobody_builds : (j k : ℕ) (list : List ℕ) → NobodyHalts r (carried_out kit r y (Ok (Deed.Build j k)) list)
   unfolding carried_out after_build issue with_history with_replica hold
   nobody_builds j k list = nobody_put y _ refl (λ z. z)
 
@@ -93,13 +93,13 @@ module _ (kit : Kit) (r : Room) (e : Event) (y x : ℕ) where
 
   carried_halts : (d : Decision) (list : List ℕ) → Tested kit r e y d → Halts r (carried_out kit r y d list) x → TakenPanic e (answer_of d) x
   unfolding carried_out after_file issue with_history
-  carried_halts (Decision.Refuse answer) list t h = absurd (h.0 h.1)
-  carried_halts (Decision.Submit request) list t h = absurd (h.0 ((nobody_submit kit r request).was_halted x h.1))
-  carried_halts (Decision.Issue z name content) list t h = absurd (h.0 h.1)
-  carried_halts (Decision.Act act) list t h = record { panic = acted_halts act t h; taken = refl }
-  carried_halts Decision.Idle list t h = absurd (h.0 h.1)
-  carried_halts (Decision.Build j k) list t h = absurd (h.0 ((nobody_builds kit r e y j k list).was_halted x h.1))
-  carried_halts (Decision.File j k) list t h = absurd (h.0 h.1)
+  carried_halts (Err answer) list t h = absurd (h.0 h.1)
+  carried_halts (Ok (Deed.Submit request)) list t h = absurd (h.0 ((nobody_submit kit r request).was_halted x h.1))
+  carried_halts (Ok (Deed.Issue z name content)) list t h = absurd (h.0 h.1)
+  carried_halts (Ok (Deed.Act act)) list t h = record { panic = acted_halts act t h; taken = refl }
+  carried_halts (Ok Deed.Idle) list t h = absurd (h.0 h.1)
+  carried_halts (Ok (Deed.Build j k)) list t h = absurd (h.0 ((nobody_builds kit r e y j k list).was_halted x h.1))
+  carried_halts (Ok (Deed.File j k)) list t h = absurd (h.0 h.1)
 
 event_halts : (kit : Kit) (r : Room) (e : Event) (list : List ℕ) (x : ℕ) → Halts r (on_event kit r e list).room x
     → TakenPanic e (on_event kit r e list).answer x
@@ -116,10 +116,10 @@ step_halts kit r e x was is =
 
 -- at a moment of a play
 pub halts_by_panic
-    : (kit : Kit) (n : ℕ) (e : Entry) (a : Answer) (x : ℕ) → nth kit.events n ≡ some e → answer kit n ≡ some a
+    : (kit : Kit) (n : ℕ) (e : Entry) (a : Answer) (x : ℕ) → nth kit.events n ≡ Some e → answer kit n ≡ Some a
     → ((after kit n).replica x).condition ≢ Halted → ((after kit (suc n)).replica x).condition ≡ Halted → TakenPanic e.event a x
 unfolding answer
 halts_by_panic kit n e a x h g was is =
-    let g₁ : some (step kit (after kit n) e).answer ≡ some a = rw h at g in
+    let g₁ : Some (step kit (after kit n) e).answer ≡ Some a = rw h at g in
     let z : (step kit (after kit n) e).answer ≡ a = cc in
     rw z at (step_halts kit (after kit n) e x was (rw (after_suc kit n e h) at is))

@@ -1,10 +1,9 @@
 -- What stays with a replica once it has it: a held history, a closed condition, being faulty. In every play of any kit. In order: what stays
 -- (`Keeps`); events other than filing, building and handing over (`Calm`), change by change, and every act of a replica (`act_holds`); every event
 -- (`event_keeps`) and every two moments (`after_keeps`). Assumes nothing.
-use Rattle.std.specs.Prelude.{◌≡◌, true, false, ◌&&◌, ◌≢◌, List, [], ◌∷◌, ◌++◌, ℕ, ◌≤◌, ◌<◌, length, get_or, eqb, ltb, leb}
+use Rattle.std.specs.Prelude.{◌≡◌, true, false, ◌&&◌, ◌≢◌, List, [], ◌∷◌, ◌++◌, ℕ, ◌≤◌, ◌<◌, length, get_or, eqb, ltb, leb, None, Some, Ok, Err}
 use Rattle.std.proofs.Math.Path.{refl}
 use Rattle.std.proofs.Common.{sym, ap, ◌∙◌, arith, eqb-true, ne_eqb}
-use Rattle.std.proofs.Math.Option.{none, some}
 use Rattle.terms.specs.Limits.{ag, up, sw, places_max}
 use Rattle.terms.specs.Lists.{pick}
 use Rattle.terms.specs.ListLaws.{split, pick_elim, no_way, length-snoc}
@@ -13,7 +12,8 @@ use Rattle.terms.specs.Kit.{Kit, Entry}
 use Rattle.terms.specs.declared.Content.{Content}
 use Rattle.terms.specs.declared.Event.{Event}
 use Rattle.terms.specs.declared.Act.{Act}
-use Rattle.terms.specs.declared.Decision.{Decision}
+use Rattle.terms.specs.Numbers.{Decision}
+use Rattle.terms.specs.declared.Deed.{Deed}
 use Rattle.rules.specs.Room.{Room, Replica, with_clock, with_late, with_replica, issue, with_history, remember}
 use Rattle.rules.specs.Room.{with_condition, with_mark, note, note_pair, accept, hold}
 use Rattle.rules.proofs.Laws.RoomLaws.{replica_other, counter_other}
@@ -31,7 +31,7 @@ use Rattle.rules.proofs.Laws.Tested.{ToHand, ToAct, ToIssue, Tested, tested}
 -- ---- what stays
 
 pub record Keeps (r r₁ : Room) : Type 0 where
-  pub held : (x h : ℕ) → (r.replica x).held ≡ some h → (r₁.replica x).held ≡ some h
+  pub held : (x h : ℕ) → (r.replica x).held ≡ Some h → (r₁.replica x).held ≡ Some h
   pub closed : (x : ℕ) → is_closed (r.replica x).condition ≡ true → is_closed (r₁.replica x).condition ≡ true
   pub faulty : (x : ℕ) → is_faulty (r₁.replica x).condition ≡ is_faulty (r.replica x).condition
   -- a faulty replica's record is never touched
@@ -205,7 +205,7 @@ module _ (kit : Kit) (r : Room) (e : Event) (x : ℕ) where
 -- ---- every event
 
 -- a replica that holds nothing takes hold of a history
-keeps_hold : (r : Room) (x h : ℕ) → is_faulty (r.replica x).condition ≡ false → (r.replica x).held ≡ none → Keeps r (with_replica r x (hold (r.replica x) h))
+keeps_hold : (r : Room) (x h : ℕ) → is_faulty (r.replica x).condition ≡ false → (r.replica x).held ≡ None → Keeps r (with_replica r x (hold (r.replica x) h))
 unfolding with_replica hold
 keeps_hold r x h fx free =
     record {
@@ -227,13 +227,13 @@ module _ (kit : Kit) (r : Room) (e : Event) (x : ℕ) where
 
   keeps_carried : (d : Decision) (list : List ℕ) → Tested kit r e x d → Keeps r (carried_out kit r x d list)
   unfolding carried_out after_build after_file issue with_replica with_history
-  keeps_carried (Decision.Refuse answer) list t = keeps_refl r
-  keeps_carried (Decision.Submit request) list t = calm_keeps (calm_submit kit r request)
-  keeps_carried (Decision.Issue y name content) list t = calm_keeps (calm_faulty_issue kit r e x y name content t)
-  keeps_carried (Decision.Act act) list t = keeps_acted act t
-  keeps_carried Decision.Idle list t = keeps_refl r
-  keeps_carried (Decision.Build j k) list t = keeps_records refl (keeps_hold r x _ t.correct t.free)
-  keeps_carried (Decision.File j k) list t = keeps_records refl (keeps_refl r)
+  keeps_carried (Err answer) list t = keeps_refl r
+  keeps_carried (Ok (Deed.Submit request)) list t = calm_keeps (calm_submit kit r request)
+  keeps_carried (Ok (Deed.Issue y name content)) list t = calm_keeps (calm_faulty_issue kit r e x y name content t)
+  keeps_carried (Ok (Deed.Act act)) list t = keeps_acted act t
+  keeps_carried (Ok Deed.Idle) list t = keeps_refl r
+  keeps_carried (Ok (Deed.Build j k)) list t = keeps_records refl (keeps_hold r x _ t.correct t.free)
+  keeps_carried (Ok (Deed.File j k)) list t = keeps_records refl (keeps_refl r)
 
 pub event_keeps : (kit : Kit) (r : Room) (e : Event) (list : List ℕ) → Keeps r (on_event kit r e list).room
 unfolding on_event

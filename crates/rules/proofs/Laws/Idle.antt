@@ -3,7 +3,7 @@
 use Rattle.std.proofs.Common.{◌≡◌, true, false, not, ◌&&◌, ℕ, suc, ◌+◌, ◌-◌, ◌≤◌, length, leb, sym, ap, ◌∙◌, subst, arith, leb-true, leb-false, le-leb, List, [], ◌∷◌, ◌++◌}
 use Rattle.std.proofs.Math.Path.{refl}
 use Rattle.std.proofs.Math.Bool.{and-false}
-use Rattle.std.proofs.Math.Option.{Option, none, some}
+use Rattle.std.specs.Prelude.{Option, None, Some}
 use Rattle.std.proofs.lemmas.Bool.{lt-leb}
 use Rattle.terms.specs.Lists.{pick, is_some}
 use Rattle.terms.specs.ListLaws.{split, no_way, length-snoc}
@@ -44,7 +44,7 @@ module _ (kit : Kit) (r r₁ : Room) (same : (q : ℕ) → answered kit r₁ q �
 
   -- who is overdue at a clock is so at a later one too, and is still the first
   overdue_stays
-      : r.clock ≤ r₁.clock → (qs ts : List ℕ) → NeverFall ts → (late : ℕ) → overdue kit r qs ts ≡ some late → overdue kit r₁ qs ts ≡ some late
+      : r.clock ≤ r₁.clock → (qs ts : List ℕ) → NeverFall ts → (late : ℕ) → overdue kit r qs ts ≡ Some late → overdue kit r₁ qs ts ≡ Some late
   overdue_stays l [] ts w late e = e
   overdue_stays l (q ∷ qs) [] w late e = e
   overdue_stays l (q ∷ qs) (t ∷ ts) w late e =
@@ -70,11 +70,11 @@ tick_late kit r gap = refl
 
 -- a late tick found at the first of two clocks, or there before, is the one found at the second
 late_joined
-    : (late first second : Option ℕ) → ((n : ℕ) → first ≡ some n → second ≡ some n)
+    : (late first second : Option ℕ) → ((n : ℕ) → first ≡ Some n → second ≡ Some n)
     → pick (is_some (pick (is_some late) late first)) (pick (is_some late) late first) second ≡ pick (is_some late) late second
-late_joined (some n) first second h = refl
-late_joined none none second h = refl
-late_joined none (some n) second h = sym (h n refl)
+late_joined (Some n) first second h = refl
+late_joined None None second h = refl
+late_joined None (Some n) second h = sym (h n refl)
 
 pub tick_joined : (kit : Kit) (r : Room) → NeverFall r.ticks → (a b : ℕ) → tick kit (tick kit r a) b ≡ tick kit r (a + b)
 unfolding tick with_clock with_late
@@ -102,12 +102,12 @@ idle_joined_after kit n = idle_joined kit (after kit n) (timed kit n).rising
 
 -- where there is no late tick, nobody is overdue
 abbrev pub Quiet : Kit → Room → Type 0
-Quiet kit r = r.late ≡ none → overdue kit r r.submitted r.ticks ≡ none
+Quiet kit r = r.late ≡ None → overdue kit r r.submitted r.ticks ≡ None
 
 -- what lateness finds, where it leaves no late tick
-found_none : (late found : Option ℕ) → pick (is_some late) late found ≡ none → found ≡ none
-found_none none found e = e
-found_none (some n) found e = no_way (cc)
+found_none : (late found : Option ℕ) → pick (is_some late) late found ≡ None → found ≡ None
+found_none None found e = e
+found_none (Some n) found e = no_way (cc)
 
 pub tick_quiet : (kit : Kit) (r : Room) (gap : ℕ) → Quiet kit (tick kit r gap)
 unfolding tick with_clock with_late
@@ -119,26 +119,26 @@ module _ (kit : Kit) where
   -- who is not overdue is not made so by more answers at the same clock
   pub overdue_kept
       : (r r₁ : Room) → r₁.clock ≡ r.clock → ((q : ℕ) → answered kit r q ≡ true → answered kit r₁ q ≡ true) → (qs ts : List ℕ)
-      → overdue kit r qs ts ≡ none → overdue kit r₁ qs ts ≡ none
+      → overdue kit r qs ts ≡ None → overdue kit r₁ qs ts ≡ None
   overdue_kept r r₁ c a [] ts e = refl
   overdue_kept r r₁ c a (q ∷ qs) [] e = refl
   overdue_kept r r₁ c a (q ∷ qs) (t ∷ ts) e =
       split (answered kit r q) (λ y. rw (a q y) (overdue_kept r r₁ c a qs ts (rw y at e)))
       (λ n. split (leb kit.patience (r.clock - t))
-      (λ h. let z : some (t + kit.patience) ≡ none = rw (n, h) at e in no_way (cc z))
+      (λ h. let z : Some (t + kit.patience) ≡ None = rw (n, h) at e in no_way (cc z))
       (λ h. let h₁ : leb kit.patience (r₁.clock - t) ≡ false = ap (λ (k : ℕ). leb kit.patience (k - t)) c ∙ h in
       rw (h₁, and-false (not (answered kit r₁ q))) (overdue_kept r r₁ c a qs ts (rw (n, h) at e))))
 
   -- nor by a submission at this very tick: its wait is 0
   overdue_more
-      : (r : Room) → 1 ≤ kit.patience → (q : ℕ) (qs ts : List ℕ) → length ts ≡ length qs → overdue kit r qs ts ≡ none
-      → overdue kit r (qs ++ (q ∷ [])) (ts ++ (r.clock ∷ [])) ≡ none
+      : (r : Room) → 1 ≤ kit.patience → (q : ℕ) (qs ts : List ℕ) → length ts ≡ length qs → overdue kit r qs ts ≡ None
+      → overdue kit r (qs ++ (q ∷ [])) (ts ++ (r.clock ∷ [])) ≡ None
   overdue_more r low q [] [] l e = rw (lt-leb kit.patience (r.clock - r.clock) (omega arith), and-false (not (answered kit r q)))
   overdue_more r low q [] (t ∷ ts) l e = absurd (omega arith)
   overdue_more r low q (p ∷ qs) [] l e = absurd (omega arith)
   overdue_more r low q (p ∷ qs) (t ∷ ts) l e =
       split (not (answered kit r p) && leb kit.patience (r.clock - t))
-      (λ y. let z : some (t + kit.patience) ≡ none = rw y at e in no_way (cc z))
+      (λ y. let z : Some (t + kit.patience) ≡ None = rw y at e in no_way (cc z))
       (λ n. rw n (overdue_more r low q qs ts (omega arith) (rw n at e)))
 
   quiet_changed
@@ -171,9 +171,9 @@ module _ (kit : Kit) where
       (always_keeps kit (λ (r : Room). Timed r × Quiet kit r) (λ r e w. (step_timed kit r e w.0, step_quiet low r e w.0)) (timed kit 0, λ h. refl) n).1
 
 -- where it leaves the late tick as it was
-found_same : (late found : Option ℕ) → (late ≡ none → found ≡ none) → pick (is_some late) late found ≡ late
-found_same none found h = h refl
-found_same (some n) found h = refl
+found_same : (late found : Option ℕ) → (late ≡ None → found ≡ None) → pick (is_some late) late found ≡ late
+found_same None found h = h refl
+found_same (Some n) found h = refl
 
 -- in a quiet room a tick of 0 changes nothing
 pub tick_zero : (kit : Kit) (r : Room) → Quiet kit r → tick kit r 0 ≡ r

@@ -1,14 +1,13 @@
 -- What an editor may do to the idle time of a kit: make two neighbouring idles one, cut one in two, take out an idle of 0 or put one in. Of the two
 -- kits the one has an event less. They are good together; but for that event every room and every answer of the one is the other's, and the later ones
 -- are numbered one lower. Places and moments are counted from 0: the line of the event at place n has the number n+1. Assumes nothing.
-use Rattle.std.specs.Prelude.{◌≡◌, refl, [], ◌∷◌, ℕ, suc, ◌+◌, ◌≤◌, ◌<◌, length, drop}
+use Rattle.std.specs.Prelude.{◌≡◌, refl, [], ◌∷◌, ℕ, suc, ◌+◌, ◌≤◌, ◌<◌, length, drop, Some}
 use Rattle.std.proofs.Common.{arith}
-use Rattle.std.proofs.Math.Option.{some}
 use Rattle.terms.specs.Limits.{replicas, ticks_max, events_max}
 use Rattle.terms.specs.Lists.{nth}
 use Rattle.terms.specs.ListLaws.{nth-lt}
 use Rattle.terms.specs.Kit.{Kit, Entry, GoodEntry, GoodKit}
-use Rattle.terms.specs.declared.Answer.TheVariants.{Taken}
+use Rattle.terms.specs.Numbers.{Taken}
 use Rattle.rules.specs.Clock.{tick}
 use Rattle.rules.specs.Play.{after, answer}
 use Rattle.rules.proofs.Laws.Idle.{idle}
@@ -25,8 +24,8 @@ pub data OneIdleLess (n : ℕ) (kit kit₁ : Kit) : Type 0 where
 
 -- the event at place n is an idle of this gap: it is taken, and only the clock and the late tick move; of 0, nothing does
 pub record IdlesAt (n gap : ℕ) (kit : Kit) : Type 0 where
-  pub event : nth kit.events n ≡ some (idle gap)
-  pub taken : answer kit n ≡ some Taken
+  pub event : nth kit.events n ≡ Some (idle gap)
+  pub taken : answer kit n ≡ Some Taken
   pub room : after kit (suc n) ≡ tick kit (after kit n) gap
   pub of_zero : gap ≡ 0 → after kit (suc n) ≡ after kit n
 
@@ -86,25 +85,25 @@ good_together {n} {kit} {kit₁} (left_out i) =
 -- ---- the four edits of a kit in hand
 
 module _ (kit : Kit) (n : ℕ) where
-  inside : (e : Entry) → nth kit.events n ≡ some e → n ≤ length kit.events
+  inside : (e : Entry) → nth kit.events n ≡ Some e → n ≤ length kit.events
   inside e at = omega (arith, nth-lt kit.events n at)
 
   -- two idles at places n and n+1 made one
   pub join
-      : (a b : ℕ) → nth kit.events n ≡ some (idle a) → nth kit.events (suc n) ≡ some (idle b) → a + b ≤ ticks_max
+      : (a b : ℕ) → nth kit.events n ≡ Some (idle a) → nth kit.events (suc n) ≡ Some (idle b) → a + b ≤ ticks_max
       → OneIdleLess n kit (replace n 2 (idle (a + b) ∷ []) kit)
   join a b e d few =
       joined a b few
       (replaced n (idle a ∷ idle b ∷ []) (idle (a + b) ∷ []) kit (inside (idle a) e) (stands_two kit.events n (idle a) (idle b) e d))
 
   -- an idle at place n cut in two
-  pub cut : (a b : ℕ) → nth kit.events n ≡ some (idle (a + b)) → a + b ≤ ticks_max → OneIdleLess n (replace n 1 (idle a ∷ idle b ∷ []) kit) kit
+  pub cut : (a b : ℕ) → nth kit.events n ≡ Some (idle (a + b)) → a + b ≤ ticks_max → OneIdleLess n (replace n 1 (idle a ∷ idle b ∷ []) kit) kit
   cut a b e few =
       joined a b few
       (back (replaced n (idle (a + b) ∷ []) (idle a ∷ idle b ∷ []) kit (inside (idle (a + b)) e) (stands_one kit.events n (idle (a + b)) e)))
 
   -- an idle of 0 at place n taken out
-  pub take_out : nth kit.events n ≡ some (idle 0) → OneIdleLess n kit (replace n 1 [] kit)
+  pub take_out : nth kit.events n ≡ Some (idle 0) → OneIdleLess n kit (replace n 1 [] kit)
   take_out e = left_out (replaced n (idle 0 ∷ []) [] kit (inside (idle 0) e) (stands_one kit.events n (idle 0) e))
 
   -- an idle of 0 put in at place n, which may be behind the last event

@@ -1,8 +1,7 @@
 -- The plays of two kits of which the one has an idle less (IdleEdits): but for that event every room and every answer of the one is the other's, and the
 -- later ones are numbered one lower. Assumes nothing.
-use Rattle.std.specs.Prelude.{◌≡◌, [], ◌∷◌, ℕ, suc, ◌+◌, ◌-◌, ◌≤◌, ◌<◌, length}
+use Rattle.std.specs.Prelude.{◌≡◌, [], ◌∷◌, ℕ, suc, ◌+◌, ◌-◌, ◌≤◌, ◌<◌, length, Some}
 use Rattle.std.proofs.Common.{sym, ap, ◌∙◌, ⊎_elim, arith}
-use Rattle.std.proofs.Math.Option.{some}
 use Rattle.terms.specs.Lists.{nth}
 use Rattle.terms.specs.ListLaws.{nth-lt, same?}
 use Rattle.terms.specs.Kit.{Kit}
@@ -15,7 +14,7 @@ use Rattle.rules.proofs.Laws.Idle.{idle, idle_joined_after, idle_zero}
 use Rattle.rules.proofs.Laws.Instead.{Instead, back, same_patience, first_stands, second_stands, rooms_before, answers_before, rooms_behind, answers_behind, place_within, instead_length}
 use Rattle.rules.proofs.Laws.IdleEdits.{OneIdleLess, joined, left_out, IdlesAt, PlaysWithout}
 
-idles_at : (kit : Kit) → 1 ≤ kit.patience → (n gap : ℕ) → nth kit.events n ≡ some (idle gap) → IdlesAt n gap kit
+idles_at : (kit : Kit) → 1 ≤ kit.patience → (n gap : ℕ) → nth kit.events n ≡ Some (idle gap) → IdlesAt n gap kit
 unfolding answer step on_event decide carried_out
 idles_at kit low n gap is =
     let room = after_suc kit n (idle gap) is in

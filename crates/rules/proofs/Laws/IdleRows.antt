@@ -1,7 +1,6 @@
 -- Idle time, by computation: seven ways to spend twelve ticks; the four edits of a kit; and rooms that no kit reaches, where the laws of Idle do not
 -- hold: two whose ticks fall, and one where somebody is overdue and there is no late tick. Assumes nothing.
-use Rattle.std.specs.Prelude.{◌≡◌, refl, List, [], ◌∷◌, ◌++◌, map, ℕ, ◌+◌, length}
-use Rattle.std.proofs.Math.Option.{Option, none, some}
+use Rattle.std.specs.Prelude.{◌≡◌, refl, List, [], ◌∷◌, ◌++◌, map, ℕ, ◌+◌, length, Option, None, Some}
 use Rattle.std.proofs.Common.{arith}
 use Rattle.terms.specs.Limits.{ag}
 use Rattle.terms.specs.Kit.{Kit}
@@ -39,7 +38,7 @@ submitted_at clock requests ticks =
     let r = fresh_room (of_patience 1) in
     record {
       clock = clock;
-      late = none;
+      late = None;
       submitted = requests;
       ticks = ticks;
       histories = r.histories;
@@ -68,16 +67,16 @@ late_after patience r gaps = (play (of_patience patience) r (map idle gaps)).lat
 
 pub record IdleRows : Type 0 where
   -- twelve ticks in one idle, in two of six, cut where the patience is over, one tick and two after that, with an idle of 0 before them, in three
-  pub one : after_idles (12 ∷ []) ≡ (15, some 11)
-  pub halves : after_idles (6 ∷ 6 ∷ []) ≡ (15, some 11)
-  pub cut_at_eight : after_idles (8 ∷ 4 ∷ []) ≡ (15, some 11)
-  pub cut_at_nine : after_idles (9 ∷ 3 ∷ []) ≡ (15, some 11)
-  pub cut_at_ten : after_idles (10 ∷ 2 ∷ []) ≡ (15, some 11)
-  pub zero_first : after_idles (0 ∷ 12 ∷ []) ≡ (15, some 11)
-  pub in_three : after_idles (4 ∷ 0 ∷ 8 ∷ []) ≡ (15, some 11)
+  pub one : after_idles (12 ∷ []) ≡ (15, Some 11)
+  pub halves : after_idles (6 ∷ 6 ∷ []) ≡ (15, Some 11)
+  pub cut_at_eight : after_idles (8 ∷ 4 ∷ []) ≡ (15, Some 11)
+  pub cut_at_nine : after_idles (9 ∷ 3 ∷ []) ≡ (15, Some 11)
+  pub cut_at_ten : after_idles (10 ∷ 2 ∷ []) ≡ (15, Some 11)
+  pub zero_first : after_idles (0 ∷ 12 ∷ []) ≡ (15, Some 11)
+  pub in_three : after_idles (4 ∷ 0 ∷ 8 ∷ []) ≡ (15, Some 11)
   -- one tick before the patience is over an idle of 0 makes nobody late, and one of 1 does
-  pub zero_early : after_idles (7 ∷ 0 ∷ []) ≡ (10, none)
-  pub one_more : after_idles (7 ∷ 0 ∷ 1 ∷ []) ≡ (11, some 11)
+  pub zero_early : after_idles (7 ∷ 0 ∷ []) ≡ (10, None)
+  pub one_more : after_idles (7 ∷ 0 ∷ 1 ∷ []) ≡ (11, Some 11)
   -- the answers behind them are the same, numbered one higher
   pub answers_one : answers (pauses (12 ∷ [])) 5 ≡ 0 ∷ 0 ∷ 0 ∷ 11 ∷ 0 ∷ []
   pub answers_two : answers (pauses (6 ∷ 6 ∷ [])) 6 ≡ 0 ∷ 0 ∷ 0 ∷ 0 ∷ 11 ∷ 0 ∷ []
@@ -88,12 +87,12 @@ pub record IdleRows : Type 0 where
   pub taking_out : replace 2 1 [] (pauses (0 ∷ 12 ∷ [])) ≡ pauses (12 ∷ [])
   -- where ticks fall two idles are not one: at a patience of 5; and at one of 15, where the room is quiet and no tick is past the clock
   pub falls : NeverFall fallen.ticks → ⊥
-  pub fallen_cut : late_after 5 fallen (5 ∷ 10 ∷ []) ≡ some 5
-  pub fallen_whole : late_after 5 fallen (15 ∷ []) ≡ some 15
-  pub within_cut : late_after 15 fallen_within (5 ∷ 10 ∷ []) ≡ some 15
-  pub within_whole : late_after 15 fallen_within (15 ∷ []) ≡ some 25
+  pub fallen_cut : late_after 5 fallen (5 ∷ 10 ∷ []) ≡ Some 5
+  pub fallen_whole : late_after 5 fallen (15 ∷ []) ≡ Some 15
+  pub within_cut : late_after 15 fallen_within (5 ∷ 10 ∷ []) ≡ Some 15
+  pub within_whole : late_after 15 fallen_within (15 ∷ []) ≡ Some 25
   -- where somebody is overdue and there is no late tick, an idle of 0 finds it
-  pub overdue_found : (overdue_unknown.late ≡ none) × (late_after 5 overdue_unknown (0 ∷ []) ≡ some 5)
+  pub overdue_found : (overdue_unknown.late ≡ None) × (late_after 5 overdue_unknown (0 ∷ []) ≡ Some 5)
 
 pub idle_rows : IdleRows
 unfolding computing with_events same_table replace

@@ -4,7 +4,7 @@
 use Rattle.std.proofs.Common.{◌≡◌, ℕ, zero, suc, ◌+◌, ◌≤◌, ◌<◌, length, take, drop, sym, ◌∙◌, subst, take-append-drop, length-take-le, drop-drop, List, [], ◌∷◌, ◌++◌, arith}
 use Rattle.std.proofs.Math.Path.{refl, ap}
 use Rattle.std.proofs.Math.Logic.{⊎_elim}
-use Rattle.std.proofs.Math.Option.{Option, none, some}
+use Rattle.std.specs.Prelude.{Option, None, Some}
 use Rattle.std.proofs.Math.ListN.{length-append}
 use Rattle.std.proofs.lemmas.List.{take-append-le}
 use Rattle.std.proofs.Math.Seq.{take-append-add, take-length, drop-append_seam}
@@ -69,19 +69,19 @@ replaced n old new kit l stands =
 pub stands_none : (l : List Entry) → Sub [] l
 stands_none l i e h = no_way (cc)
 
-pub stands_first : (l : List Entry) (n : ℕ) (e : Entry) (es : List Entry) → nth l n ≡ some e → Sub es (drop (suc n) l) → Sub (e ∷ es) (drop n l)
+pub stands_first : (l : List Entry) (n : ℕ) (e : Entry) (es : List Entry) → nth l n ≡ Some e → Sub es (drop (suc n) l) → Sub (e ∷ es) (drop n l)
 stands_first l n e es at rest zero d h = nth_drop n l 0 ∙ ap (nth l) (omega arith) ∙ at ∙ h
 stands_first l n e es at rest (suc i) d h = nth_drop n l (suc i) ∙ ap (nth l) (omega arith) ∙ sym (nth_drop (suc n) l i) ∙ rest i d h
 
-pub stands_one : (l : List Entry) (n : ℕ) (e : Entry) → nth l n ≡ some e → Sub (e ∷ []) (drop n l)
+pub stands_one : (l : List Entry) (n : ℕ) (e : Entry) → nth l n ≡ Some e → Sub (e ∷ []) (drop n l)
 stands_one l n e at = stands_first l n e [] at (stands_none (drop (suc n) l))
 
-pub stands_two : (l : List Entry) (n : ℕ) (e d : Entry) → nth l n ≡ some e → nth l (suc n) ≡ some d → Sub (e ∷ d ∷ []) (drop n l)
+pub stands_two : (l : List Entry) (n : ℕ) (e d : Entry) → nth l n ≡ Some e → nth l (suc n) ≡ Some d → Sub (e ∷ d ∷ []) (drop n l)
 stands_two l n e d at next = stands_first l n e (d ∷ []) at (stands_one l (suc n) d next)
 
 -- every event of a list is such
 abbrev pub Each {ℓ} : (Entry → Type ℓ) → List Entry → Type ℓ
-Each P es = (j : ℕ) (e : Entry) → nth es j ≡ some e → P e
+Each P es = (j : ℕ) (e : Entry) → nth es j ≡ Some e → P e
 
 pub each_none {ℓ} : (P : Entry → Type ℓ) → Each P []
 each_none P j e at = no_way (cc)
@@ -115,8 +115,8 @@ module _ (kit : Kit) (events : List Entry) where
   play_other r (e ∷ es) = rw (step_other r e) (play_other (step kit r e).room es)
 
   answer_other : (r : Room) (o : Option Entry) → answer_in (with_events kit events) r o ≡ answer_in kit r o
-  answer_other r none = refl
-  answer_other r (some e) = rw (step_other r e)
+  answer_other r None = refl
+  answer_other r (Some e) = rw (step_other r e)
 
   -- the room after the first m of these events, as the kit plays them
   after_other : (m : ℕ) → after (with_events kit events) m ≡ play kit (fresh_room kit) (take m events)
@@ -145,7 +145,7 @@ module _ (kit : Kit) (before stretch later : List Entry) where
   unfolding answer with_events same_table
   answer_to m l =
       let e = nth_in before m l in
-      rw (room_to m (omega arith), e.1, nth-append before (stretch ++ later) m e.1) (answer_other kit _ _ (some e.0))
+      rw (room_to m (omega arith), e.1, nth-append before (stretch ++ later) m e.1) (answer_other kit _ _ (Some e.0))
 
   answer_from
       : (m : ℕ)
@@ -236,10 +236,10 @@ module _ {n : ℕ} {old new : List Entry} {kit kit₁ : Kit} (i : Instead n old 
       ))
 
   -- what stands before and behind the stretch stood in the kit
-  stood_before : (j : ℕ) (e : Entry) → nth i.before j ≡ some e → nth kit.events j ≡ some e
+  stood_before : (j : ℕ) (e : Entry) → nth i.before j ≡ Some e → nth kit.events j ≡ Some e
   stood_before j e h = rw i.was (nth-append i.before (old ++ i.later) j h)
 
-  stood_behind : (j : ℕ) (e : Entry) → nth i.later j ≡ some e → nth kit.events (length i.before + (length old + j)) ≡ some e
+  stood_behind : (j : ℕ) (e : Entry) → nth i.later j ≡ Some e → nth kit.events (length i.before + (length old + j)) ≡ Some e
   stood_behind j e h = rw (i.was, nth_behind i.before (old ++ i.later) (length old + j), nth_behind old i.later j) h
 
   -- what every event of kit and every new one has, every event of kit₁ has
@@ -273,8 +273,8 @@ module _ {n : ℕ} {old new : List Entry} {kit kit₁ : Kit} (i : Instead n old 
 -- ---- the first two events of the stretch
 
 module _ {n : ℕ} {e : Entry} {more new : List Entry} {kit kit₁ : Kit} where
-  pub first_stands : Instead n (e ∷ more) new kit kit₁ → nth kit.events n ≡ some e
+  pub first_stands : Instead n (e ∷ more) new kit kit₁ → nth kit.events n ≡ Some e
   first_stands i = ap (nth kit.events) (omega arith) ∙ stands_there i 0
 
-  pub second_stands : {d : Entry} → Instead n (e ∷ d ∷ more) new kit kit₁ → nth kit.events (suc n) ≡ some d
+  pub second_stands : {d : Entry} → Instead n (e ∷ d ∷ more) new kit kit₁ → nth kit.events (suc n) ≡ Some d
   second_stands i = ap (nth kit.events) (omega arith) ∙ stands_there i 1

@@ -1,7 +1,6 @@
 -- No event looks at the late tick: in a room with another one it comes to the same, with that late tick. Assumes nothing.
-use Rattle.std.specs.Prelude.{◌≡◌, Bool, true, false, List, ℕ, leb, ltb}
+use Rattle.std.specs.Prelude.{◌≡◌, Bool, true, false, List, ℕ, leb, ltb, Option, None, Some, Ok, Err}
 use Rattle.std.proofs.Math.Path.{refl, ap, fun_ext}
-use Rattle.std.proofs.Math.Option.{Option, none, some}
 use Rattle.terms.specs.Limits.{ag, sw}
 use Rattle.terms.specs.Lists.{pick, nth}
 use Rattle.terms.specs.Kit.{Kit}
@@ -9,7 +8,8 @@ use Rattle.terms.specs.declared.Content.TheVariants.{Commit}
 use Rattle.terms.specs.declared.Event.{Event}
 use Rattle.terms.specs.declared.Event.TheVariants.{Submit, Issue, Deliver, Hand, Panic, Idle, Build, File}
 use Rattle.terms.specs.declared.Act.{Act}
-use Rattle.terms.specs.declared.Decision.{Decision}
+use Rattle.terms.specs.Numbers.{Decision}
+use Rattle.terms.specs.declared.Deed.{Deed}
 use Rattle.rules.specs.Room.{Filing, Replica, Room, with_late, with_replica, with_history, remember, issue, accept}
 use Rattle.rules.specs.Reading.{is_running}
 use Rattle.rules.proofs.Laws.ReadingLaws.{held_same}
@@ -37,8 +37,8 @@ module _ (kit : Kit) (late : Option ℕ) (r : Room) where
   -- it is decided in the same way
   valid_late : (p q h : ℕ) (o : Option Filing) → is_valid_filing kit (with_late r late) p q h o ≡ is_valid_filing kit r p q h o
   unfolding with_late is_valid is_committed is_settled_by
-  valid_late p q h none = refl
-  valid_late p q h (some filing) = refl
+  valid_late p q h None = refl
+  valid_late p q h (Some filing) = refl
 
   decide_late : (e : Event) → decide kit (with_late r late) e ≡ decide kit r e
   unfolding with_late decide built built_list
@@ -72,13 +72,13 @@ module _ (kit : Kit) (late : Option ℕ) (r : Room) where
 
   done_late : (x : ℕ) (list : List ℕ) (d : Decision) → done kit (with_late r late) x list d ≡ late_with (done kit r x list d) late
   unfolding late_with carried_out with_late after_build built_list after_file with_history with_replica issue
-  done_late x list (Decision.Refuse answer) = refl
-  done_late x list (Decision.Submit request) = ap taken (late_submit request)
-  done_late x list (Decision.Issue y name content) = refl
-  done_late x list (Decision.Act act) = ap taken (acted_late x act)
-  done_late x list Decision.Idle = refl
-  done_late x list (Decision.Build j k) = refl
-  done_late x list (Decision.File j k) = refl
+  done_late x list (Err answer) = refl
+  done_late x list (Ok (Deed.Submit request)) = ap taken (late_submit request)
+  done_late x list (Ok (Deed.Issue y name content)) = refl
+  done_late x list (Ok (Deed.Act act)) = ap taken (acted_late x act)
+  done_late x list (Ok Deed.Idle) = refl
+  done_late x list (Ok (Deed.Build j k)) = refl
+  done_late x list (Ok (Deed.File j k)) = refl
 
   pub event_late : (e : Event) (list : List ℕ) → on_event kit (with_late r late) e list ≡ late_with (on_event kit r e list) late
   unfolding on_event

@@ -1,7 +1,6 @@
 -- The late tick, in the paper's words: the earliest of the submissions that are unanswered and whose wait is at least the patience, plus the
 -- patience; and none only where no submission is so. Assumes nothing.
-use Rattle.std.specs.Prelude.{◌≡◌, refl, Bool, true, false, not, ◌&&◌, List, [], ◌∷◌, ℕ, zero, suc, ◌+◌, ◌-◌, ◌≤◌, leb}
-use Rattle.std.proofs.Math.Option.{none, some}
+use Rattle.std.specs.Prelude.{◌≡◌, refl, Bool, true, false, not, ◌&&◌, List, [], ◌∷◌, ℕ, zero, suc, ◌+◌, ◌-◌, ◌≤◌, leb, None, Some}
 use Rattle.std.proofs.Common.{arith, leb-true, le-leb}
 use Rattle.terms.specs.Lists.{nth}
 use Rattle.terms.specs.ListLaws.{split, and_l, and_r, no_way, not_was_true}
@@ -13,8 +12,8 @@ use Rattle.rules.proofs.Laws.Time.{Timed}
 
 -- submission i, of this request at this tick, is unanswered and has waited at least the patience
 pub record Waits (kit : Kit) (r : Room) (requests ticks : List ℕ) (i request tick : ℕ) : Type 0 where
-  pub request_at_lem : nth requests i ≡ some request
-  pub tick_at : nth ticks i ≡ some tick
+  pub request_at_lem : nth requests i ≡ Some request
+  pub tick_at : nth ticks i ≡ Some tick
   pub unanswered : answered kit r request ≡ false
   pub long : kit.patience ≤ r.clock - tick
 
@@ -59,12 +58,12 @@ module _ (kit : Kit) (r : Room) where
   waits_not_first q qs t ts (suc k) p u e w =
       (k, refl, record { request_at_lem = w.request_at_lem; tick_at = w.tick_at; unanswered = w.unanswered; long = w.long })
 
-  pub overdue_first : (qs ts : List ℕ) (late : ℕ) → overdue kit r qs ts ≡ some late → First kit r qs ts late
+  pub overdue_first : (qs ts : List ℕ) (late : ℕ) → overdue kit r qs ts ≡ Some late → First kit r qs ts late
   overdue_first [] ts late e = no_way (cc)
   overdue_first (q ∷ qs) [] late e = no_way (cc)
   overdue_first (q ∷ qs) (t ∷ ts) late e =
       split (is_late q t)
-      (λ y. let z : some (t + kit.patience) ≡ some late = rw y at e in
+      (λ y. let z : Some (t + kit.patience) ≡ Some late = rw y at e in
       record { i = 0; request = q; tick = t; waits = first_waits q qs t ts y; is = cc; first = λ j p u w. omega arith })
       (λ n. let h = overdue_first qs ts late (rw n at e) in
       record {
@@ -76,17 +75,17 @@ module _ (kit : Kit) (r : Room) where
         first = λ j p u w. let k = waits_not_first q qs t ts j p u n w in omega (arith, k.1, h.first k.0 p u k.2);
       })
 
-  pub overdue_none : (qs ts : List ℕ) → overdue kit r qs ts ≡ none → (i q t : ℕ) → Waits kit r qs ts i q t → ⊥
+  pub overdue_none : (qs ts : List ℕ) → overdue kit r qs ts ≡ None → (i q t : ℕ) → Waits kit r qs ts i q t → ⊥
   overdue_none [] ts e i q t w = no_way (cc w.request_at_lem)
   overdue_none (x ∷ qs) [] e i q t w = no_way (cc w.tick_at)
   overdue_none (x ∷ qs) (u ∷ ts) e i q t w =
-      split (is_late x u) (λ y. let z : some (u + kit.patience) ≡ none = rw y at e in no_way (cc z))
+      split (is_late x u) (λ y. let z : Some (u + kit.patience) ≡ None = rw y at e in no_way (cc z))
       (λ n. let k = waits_not_first x qs u ts i q t n w in
       overdue_none qs ts (rw n at e) k.0 q t k.2)
 
 -- the earliest: no submission that waits has an earlier tick
 pub overdue_earliest
-    : (kit : Kit) (r : Room) → Timed r → (late : ℕ) → overdue kit r r.submitted r.ticks ≡ some late → (j q t : ℕ)
+    : (kit : Kit) (r : Room) → Timed r → (late : ℕ) → overdue kit r r.submitted r.ticks ≡ Some late → (j q t : ℕ)
     → Waits kit r r.submitted r.ticks j q t → late ≤ t + kit.patience
 overdue_earliest kit r w late e j q t h =
     let f = overdue_first kit r r.submitted r.ticks late e in

@@ -1,8 +1,7 @@
 -- Requests noted once each, all of them submitted, and the submitted ones that are missing are together no more than those submitted: so a
 -- list without repeats whose numbers all stand in another is no longer than that one. Assumes nothing.
-use Rattle.std.specs.Prelude.{◌≡◌, refl, true, false, List, [], ◌∷◌, ℕ, suc, ◌+◌, ◌≤◌, ◌<◌, length, eqb}
+use Rattle.std.specs.Prelude.{◌≡◌, refl, true, false, List, [], ◌∷◌, ℕ, suc, ◌+◌, ◌≤◌, ◌<◌, length, eqb, Some}
 use Rattle.std.proofs.Common.{sym, ap, arith, eqb-true, ne_eqb}
-use Rattle.std.proofs.Math.Option.{some}
 use Rattle.std.proofs.lemmas.Bool.{eqb-false}
 use Rattle.terms.specs.Lists.{nth, holds, Once}
 use Rattle.terms.specs.ListLaws.{split, no_way, once_head, once_tail}
@@ -10,7 +9,7 @@ use Rattle.rules.specs.Switching.{missing}
 
 -- every element is among those of the other list
 abbrev pub Within : List ℕ → List ℕ → Type 0
-Within l m = (i a : ℕ) → nth l i ≡ some a → holds a m ≡ true
+Within l m = (i a : ℕ) → nth l i ≡ Some a → holds a m ≡ true
 
 -- nothing noted: all are missing
 missing_all : (s : List ℕ) → length (missing [] s) ≡ length s

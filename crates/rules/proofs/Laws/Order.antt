@@ -1,8 +1,7 @@
 -- The order of two deliveries to different receivers, of certificates that were issued before either, the second with gap 0: in every room, whichever
 -- comes first, the room after both is the same and each has the same answer, a refusal too. Exchange says it of kits. Assumes nothing.
-use Rattle.std.specs.Prelude.{◌≡◌, refl, Bool, true, false, ◌≢◌, List, [], ℕ, zero, suc, eqb}
+use Rattle.std.specs.Prelude.{◌≡◌, refl, Bool, true, false, ◌≢◌, List, [], ℕ, zero, suc, eqb, Option, None, Some}
 use Rattle.std.proofs.Common.{sym, ap, ◌∙◌, subst, ne_eqb}
-use Rattle.std.proofs.Math.Option.{Option, none, some}
 use Rattle.terms.specs.Lists.{nth, is_some}
 use Rattle.terms.specs.ListLaws.{no_way}
 use Rattle.terms.specs.Kit.{Kit, Entry, GoodEvent, GoodEntry}
@@ -70,8 +69,8 @@ content_stays
 content_stays {r} {r₁} g d = stays d.value
   where
     bound : (i : ℕ) (c : Option Content) → nth (r.counter d.sender d.name) i ≡ c → is_some c ≡ true → nth (r₁.counter d.sender d.name) i ≡ c
-    bound i none e there = no_way (cc)
-    bound i (some c) e there = g.counters d.sender d.name i c e
+    bound i None e there = no_way (cc)
+    bound i (Some c) e there = g.counters d.sender d.name i c e
 
     stays : (v : ℕ) → is_some (content_at (r.counter d.sender d.name) v) ≡ true
         → content_at (r₁.counter d.sender d.name) v ≡ content_at (r.counter d.sender d.name) v

@@ -1,6 +1,6 @@
 -- What is a replica's own in a room: its record and its counters. A delivery looks at its receiver's own, at the content of its certificate, at the
 -- submissions and at the histories, and at nothing else of the room; what it changes is its receiver's own. Assumes nothing.
-use Rattle.std.specs.Prelude.{◌≡◌, refl, Bool, true, false, ◌≢◌, List, [], ◌∷◌, ◌++◌, ℕ, eqb, leb, ltb}
+use Rattle.std.specs.Prelude.{◌≡◌, refl, Bool, true, false, ◌≢◌, List, [], ◌∷◌, ◌++◌, ℕ, eqb, leb, ltb, Ok, Err}
 use Rattle.std.proofs.Common.{sym, ap, ◌∙◌}
 use Rattle.std.proofs.Math.Path.{fun_ext}
 use Rattle.terms.specs.Limits.{ag, up, sw}
@@ -10,7 +10,8 @@ use Rattle.terms.specs.Kit.{Kit}
 use Rattle.terms.specs.declared.Content.{Content}
 use Rattle.terms.specs.declared.Event.TheVariants.{Deliver}
 use Rattle.terms.specs.declared.Act.{Act}
-use Rattle.terms.specs.declared.Decision.{Decision}
+use Rattle.terms.specs.Numbers.{Decision}
+use Rattle.terms.specs.declared.Deed.{Deed}
 use Rattle.rules.specs.Room.{Room, Replica, put1, with_replica, issue, accept}
 use Rattle.rules.specs.Reading.{content_at}
 use Rattle.rules.proofs.Laws.RoomLaws.{put_back, put_again, put_apart}
@@ -164,14 +165,14 @@ module _ (kit : Kit) (r r₁ : Room) (sender name value to : ℕ) (w : SeesSame 
   done_sees : (list : List ℕ) (d : Decision) → Tested kit r (Deliver sender name value to) to d
       → SameOutcome to r r₁ (done kit r to list d) (done kit r₁ to list d)
   unfolding carried_out
-  done_sees list (Decision.Refuse answer) t =
+  done_sees list (Err answer) t =
       record { answer = refl; becomes = same.becomes; room = same.room; room₁ = same.room₁ }
-  done_sees list (Decision.Submit request) t = no_way (cc t.event)
-  done_sees list (Decision.Issue x name content) t = no_way (cc t.event)
-  done_sees list (Decision.Act act) t = same_taken (acted_sees act)
-  done_sees list Decision.Idle t = no_way (cc (t))
-  done_sees list (Decision.Build j k) t = no_way (cc t.event)
-  done_sees list (Decision.File j k) t = no_way (cc t.event)
+  done_sees list (Ok (Deed.Submit request)) t = no_way (cc t.event)
+  done_sees list (Ok (Deed.Issue x name content)) t = no_way (cc t.event)
+  done_sees list (Ok (Deed.Act act)) t = same_taken (acted_sees act)
+  done_sees list (Ok Deed.Idle) t = no_way (cc (t))
+  done_sees list (Ok (Deed.Build j k)) t = no_way (cc t.event)
+  done_sees list (Ok (Deed.File j k)) t = no_way (cc t.event)
 
   pub same_delivery
       : (list : List ℕ)

@@ -2,7 +2,7 @@
 -- patience. Assumes nothing.
 use Rattle.std.proofs.Common.{◌≡◌, ℕ, take, sym, ◌∙◌, List, [], ◌∷◌}
 use Rattle.std.proofs.Math.Path.{refl, ap}
-use Rattle.std.proofs.Math.Option.{Option, none, some}
+use Rattle.std.specs.Prelude.{Option, None, Some}
 use Rattle.terms.specs.Lists.{nth}
 use Rattle.terms.specs.Kit.{Kit, Entry}
 use Rattle.rules.specs.Table.{is_marked_faulty}
@@ -41,13 +41,13 @@ module _ (kit : Kit) (patience : ℕ) where
   play_aside r late [] = (late, refl)
   play_aside r late (e ∷ es) = rw (step_aside r late e) (play_aside (step kit r e).room _ es)
 
-  fresh_aside : fresh_room (with_patience kit patience) ≡ with_late (fresh_room kit) none
+  fresh_aside : fresh_room (with_patience kit patience) ≡ with_late (fresh_room kit) None
   unfolding with_patience same_table fresh_room is_marked_faulty with_late
   fresh_aside = refl
 
   after_aside : (n : ℕ) → (late : Option ℕ) × (after (with_patience kit patience) n ≡ with_late (after kit n) late)
   unfolding after with_patience same_table
-  after_aside n = rw fresh_aside (play_aside (fresh_room kit) none (take n kit.events))
+  after_aside n = rw fresh_aside (play_aside (fresh_room kit) None (take n kit.events))
 
   -- the room after the first n events
   pub patience_room : (n : ℕ) → ButLate (after kit n) (after (with_patience kit patience) n)
@@ -55,8 +55,8 @@ module _ (kit : Kit) (patience : ℕ) where
 
   answers_aside : (r : Room) (late : Option ℕ) (o : Option Entry) → answer_in (with_patience kit patience) (with_late r late) o ≡ answer_in kit r o
   unfolding late_with
-  answers_aside r late none = refl
-  answers_aside r late (some e) = ap (λ o. some o.answer) (step_aside r late e)
+  answers_aside r late None = refl
+  answers_aside r late (Some e) = ap (λ o. Some o.answer) (step_aside r late e)
 
   -- and every answer
   pub patience_answer : (n : ℕ) → answer (with_patience kit patience) n ≡ answer kit n

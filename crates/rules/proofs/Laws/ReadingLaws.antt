@@ -1,7 +1,6 @@
 -- Laws of Reading: conditions, contents that pass a test, settled counts and lists. Assumes nothing.
-use Rattle.std.specs.Prelude.{◌≡◌, refl, Bool, true, false, ◌&&◌, ◌≢◌, List, ℕ, suc, ◌≤◌, ◌<◌, get_or, eqb}
+use Rattle.std.specs.Prelude.{◌≡◌, refl, Bool, true, false, ◌&&◌, ◌≢◌, List, ℕ, suc, ◌≤◌, ◌<◌, get_or, eqb, Option, None, Some}
 use Rattle.std.proofs.Common.{sym, ap, ◌∙◌, arith, eqb-true, ne_eqb}
-use Rattle.std.proofs.Math.Option.{Option, none, some}
 use Rattle.std.proofs.Math.Numerals.{unary_clauses}
 use Rattle.std.proofs.lemmas.Bool.{eqb-false}
 use Rattle.terms.specs.Limits.{ag, up}
@@ -12,7 +11,6 @@ use Rattle.terms.specs.Kit.{Kit}
 use Rattle.terms.specs.Numbers.{content_numbers}
 use Rattle.terms.specs.NumbersLaws.{content_back}
 use Rattle.terms.specs.declared.Content.{Content}
-use Rattle.terms.specs.declared.ContentChoice.TheVariants as ContentChoice
 use Rattle.terms.specs.declared.Condition.{Condition}
 use Rattle.terms.specs.declared.Condition.TheVariants.{Running, Halted, Closed, Faulty}
 use Rattle.rules.specs.Table.{is_active, actives}
@@ -57,19 +55,19 @@ same_content_same c d e =
     let e₀ = eqb-true (get_or n 0 0) (get_or m 0 0) (and_l t₀ (t₁ && t₂) e) in
     let e₁ = eqb-true (get_or n 1 0) (get_or m 1 0) (and_l t₁ t₂ (and_r t₀ (t₁ && t₂) e)) in
     let e₂ = eqb-true (get_or n 2 0) (get_or m 2 0) (and_r t₁ t₂ (and_r t₀ (t₁ && t₂) e)) in
-    let same : ContentChoice.Content c ≡ ContentChoice.Content d = sym (content_back c) ∙ rw (e₀, e₁, e₂) (content_back d) in
+    let same : Some c ≡ Some d = sym (content_back c) ∙ rw (e₀, e₁, e₂) (content_back d) in
     cc same
 
-pub is_content_same : (o : Option Content) (c : Content) → is_content o c ≡ true → o ≡ some c
-is_content_same none c e = no_way (cc)
-is_content_same (some d) c e = ap some (same_content_same d c e)
+pub is_content_same : (o : Option Content) (c : Content) → is_content o c ≡ true → o ≡ Some c
+is_content_same None c e = no_way (cc)
+is_content_same (Some d) c e = ap Some (same_content_same d c e)
 
 -- and a content passes the test for itself
 same_content_self : (c : Content) → same_content c c ≡ true
 unfolding same_content
 same_content_self c = let n = content_numbers c in and_both (eqb_same (get_or n 0 0)) (and_both (eqb_same (get_or n 1 0)) (eqb_same (get_or n 2 0)))
 
-pub is_content_self : {o : Option Content} {c : Content} → o ≡ some c → is_content o c ≡ true
+pub is_content_self : {o : Option Content} {c : Content} → o ≡ Some c → is_content o c ≡ true
 is_content_self {o} {c} e = rw e (same_content_self c)
 
 -- ---- settled counts: of active replica y, x has seen no less than it has settled
@@ -142,8 +140,8 @@ settled_count_waits kit x p n y a m d l =
 
 -- ---- settled lists of those that are not closed
 
-pub settled_noted_at : (kit : Kit) (x : ℕ) (p : Replica) (n i q : ℕ) → nth (settled_noted kit x p n) i ≡ some q
-    → (i < settled_count kit x p n) × (nth p.noted i ≡ some q)
+pub settled_noted_at : (kit : Kit) (x : ℕ) (p : Replica) (n i q : ℕ) → nth (settled_noted kit x p n) i ≡ Some q
+    → (i < settled_count kit x p n) × (nth p.noted i ≡ Some q)
 unfolding settled_noted
 settled_noted_at kit x p n i q e = nth-take (settled_count kit x p n) p.noted i e
 
@@ -158,5 +156,5 @@ settled_noted_rises kit x p p₁ n n₁ s l i a e =
 
 pub held_same : (r r₁ : Room) → r₁.histories ≡ r.histories → (held : Option ℕ) → held_list r₁ held ≡ held_list r held
 unfolding held_list
-held_same r r₁ e none = refl
-held_same r r₁ e (some h) = rw e
+held_same r r₁ e None = refl
+held_same r r₁ e (Some h) = rw e

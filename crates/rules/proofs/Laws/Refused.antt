@@ -1,11 +1,10 @@
 -- A refused event leaves exactly the ticked room: clock and late tick have moved, nothing else. Assumes nothing.
-use Rattle.std.specs.Prelude.{◌≡◌, refl, true, ◌≢◌, ℕ, suc, ◌+◌}
+use Rattle.std.specs.Prelude.{◌≡◌, refl, true, ◌≢◌, ℕ, suc, ◌+◌, Some}
 use Rattle.std.proofs.Common.{sym, ◌∙◌}
-use Rattle.std.proofs.Math.Option.{some}
 use Rattle.terms.specs.Lists.{nth, is_some}
 use Rattle.terms.specs.Kit.{Kit, Entry}
-use Rattle.terms.specs.declared.Answer.{Answer}
-use Rattle.terms.specs.declared.Answer.TheVariants.{Taken}
+use Rattle.terms.specs.Numbers.{Answer}
+use Rattle.terms.specs.Numbers.{Taken}
 use Rattle.rules.specs.Room.{Room, with_clock, with_late}
 use Rattle.rules.specs.Clock.{tick}
 use Rattle.rules.specs.Play.{step, after, answer}
@@ -18,11 +17,11 @@ refused_is_ticked kit r e = (event_comes kit (tick kit r e.gap) e.event e.reques
 
 -- the same at a moment of a play: event n is e, and its answer is a
 pub refused_after
-    : (kit : Kit) (n : ℕ) (e : Entry) (a : Answer) → nth kit.events n ≡ some e → answer kit n ≡ some a → a ≢ Taken
+    : (kit : Kit) (n : ℕ) (e : Entry) (a : Answer) → nth kit.events n ≡ Some e → answer kit n ≡ Some a → a ≢ Taken
     → after kit (suc n) ≡ tick kit (after kit n) e.gap
 unfolding answer
 refused_after kit n e a h g d =
-    let g₁ : some (step kit (after kit n) e).answer ≡ some a = rw h at g in
+    let g₁ : Some (step kit (after kit n) e).answer ≡ Some a = rw h at g in
     after_suc kit n e h ∙ refused_is_ticked kit (after kit n) e (λ t. d (let z : (step kit (after kit n) e).answer ≡ a = cc in sym z ∙ t))
 
 -- ---- what the tick moves, and what it leaves alone: every record, too
@@ -55,6 +54,6 @@ tick_ticked kit r gap =
 
 -- a refused event, at a moment of a play: nothing but clock and late tick
 pub refused_ticked
-    : (kit : Kit) (n : ℕ) (e : Entry) (a : Answer) → nth kit.events n ≡ some e → answer kit n ≡ some a → a ≢ Taken
+    : (kit : Kit) (n : ℕ) (e : Entry) (a : Answer) → nth kit.events n ≡ Some e → answer kit n ≡ Some a → a ≢ Taken
     → Ticked (after kit n) e.gap (after kit (suc n))
 refused_ticked kit n e a h g d = rw (refused_after kit n e a h g d) (tick_ticked kit (after kit n) e.gap)

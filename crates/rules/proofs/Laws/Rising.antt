@@ -1,6 +1,6 @@
 -- One event adds at most 1 to each accepted value and to each ag total; so the settled count of a replica rises by at most one an event. In every
 -- room, for every event that a kit may have. Assumes nothing.
-use Rattle.std.specs.Prelude.{◌≡◌, false, ◌&&◌, List, [], ◌∷◌, ℕ, suc, ◌+◌, ◌≤◌, length, eqb, ltb, leb}
+use Rattle.std.specs.Prelude.{◌≡◌, false, ◌&&◌, List, [], ◌∷◌, ℕ, suc, ◌+◌, ◌≤◌, length, eqb, ltb, leb, Ok, Err}
 use Rattle.std.proofs.Math.Path.{refl}
 use Rattle.std.proofs.Common.{arith, eqb-true}
 use Rattle.terms.specs.Limits.{ag, up, sw}
@@ -9,7 +9,8 @@ use Rattle.terms.specs.Kit.{Kit, Entry, GoodEvent, GoodEntry, GoodEntries}
 use Rattle.terms.specs.declared.Content.{Content}
 use Rattle.terms.specs.declared.Event.{Event}
 use Rattle.terms.specs.declared.Act.{Act}
-use Rattle.terms.specs.declared.Decision.{Decision}
+use Rattle.terms.specs.Numbers.{Decision}
+use Rattle.terms.specs.declared.Deed.{Deed}
 use Rattle.rules.specs.Room.{Room, Replica, put2, with_clock, with_late, with_replica, issue, with_history, remember, with_condition, with_mark, note}
 use Rattle.rules.specs.Room.{note_pair, accept, hold}
 use Rattle.rules.proofs.Laws.RoomLaws.{accepted_by_one}
@@ -114,17 +115,17 @@ module _ (kit : Kit) (r : Room) (e : Event) (x : ℕ) (size : ℕ) (list : List 
 
   rises_carried : (d : Decision) → Tested kit r e x d → Rises 1 1 r (carried_out kit r x d list)
   unfolding carried_out after_build after_file with_history hold
-  rises_carried (Decision.Refuse answer) t = one (omega arith) (omega arith) (rises_none r)
-  rises_carried (Decision.Submit request) t = rises_submit kit r request
-  rises_carried (Decision.Issue y name content) t = one (omega arith) (omega arith) (rises_issue r y name content)
-  rises_carried (Decision.Act act) t = rises_acted act t
-  rises_carried Decision.Idle t = one (omega arith) (omega arith) (rises_none r)
-  rises_carried (Decision.Build j k) t =
+  rises_carried (Err answer) t = one (omega arith) (omega arith) (rises_none r)
+  rises_carried (Ok (Deed.Submit request)) t = rises_submit kit r request
+  rises_carried (Ok (Deed.Issue y name content)) t = one (omega arith) (omega arith) (rises_issue r y name content)
+  rises_carried (Ok (Deed.Act act)) t = rises_acted act t
+  rises_carried (Ok Deed.Idle) t = one (omega arith) (omega arith) (rises_none r)
+  rises_carried (Ok (Deed.Build j k)) t =
       one (omega arith) (omega arith)
       (rises_trans (rises_same {r₁ = with_history r _ r.filed} refl refl)
       (rises_trans (rises_record 0 _ x _ (λ y n. omega arith))
       (rises_trans (rises_issue _ x ag _) (rises_trans (rises_aside _ x up _ refl) (rises_aside _ x sw _ refl)))))
-  rises_carried (Decision.File j k) t = one (omega arith) (omega arith) (rises_same refl refl)
+  rises_carried (Ok (Deed.File j k)) t = one (omega arith) (omega arith) (rises_same refl refl)
 
 rises_event : (kit : Kit) (r : Room) (size : ℕ) (e : Event) (list : List ℕ) → GoodEvent size e list → Rises 1 1 r (on_event kit r e list).room
 unfolding on_event

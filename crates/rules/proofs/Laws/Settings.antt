@@ -1,13 +1,13 @@
 -- What an event does goes by f, the leader and the table: it looks neither at the patience nor at the kit's other events. Assumes nothing.
-use Rattle.std.specs.Prelude.{◌≡◌, List, ℕ}
+use Rattle.std.specs.Prelude.{◌≡◌, List, ℕ, Option, None, Some, Ok, Err}
 use Rattle.std.proofs.Math.Path.{refl, ap, fun_ext}
-use Rattle.std.proofs.Math.Option.{Option, none, some}
 use Rattle.terms.specs.Lists.{nth}
 use Rattle.terms.specs.Kit.{Kit, Entry}
 use Rattle.terms.specs.declared.Event.{Event}
 use Rattle.terms.specs.declared.Event.TheVariants.{Submit, Issue, Deliver, Hand, Panic, Idle, Build, File}
 use Rattle.terms.specs.declared.Act.{Act}
-use Rattle.terms.specs.declared.Decision.{Decision}
+use Rattle.terms.specs.Numbers.{Decision}
+use Rattle.terms.specs.declared.Deed.{Deed}
 use Rattle.rules.specs.Table.{is_active, actives, switch_leader}
 use Rattle.rules.specs.Room.{Filing, Room}
 use Rattle.rules.specs.Reading.{settled_count}
@@ -25,8 +25,8 @@ same_table kit patience events = record { f = kit.f; leader = kit.leader; patien
 module _ (kit : Kit) (patience : ℕ) (events : List Entry) where
   valid_same : (r : Room) (p q h : ℕ) (o : Option Filing) → is_valid_filing (same_table kit patience events) r p q h o ≡ is_valid_filing kit r p q h o
   unfolding same_table is_valid is_committed is_settled_by actives switch_leader
-  valid_same r p q h none = refl
-  valid_same r p q h (some filing) = refl
+  valid_same r p q h None = refl
+  valid_same r p q h (Some filing) = refl
 
   -- it is decided in the same way
   decide_same : (r : Room) (e : Event) → decide (same_table kit patience events) r e ≡ decide kit r e
@@ -57,13 +57,13 @@ module _ (kit : Kit) (patience : ℕ) (events : List Entry) where
 
   done_same : (r : Room) (x : ℕ) (list : List ℕ) (d : Decision) → done (same_table kit patience events) r x list d ≡ done kit r x list d
   unfolding same_table carried_out after_submit
-  done_same r x list (Decision.Refuse answer) = refl
-  done_same r x list (Decision.Submit request) = refl
-  done_same r x list (Decision.Issue y name content) = refl
-  done_same r x list (Decision.Act act) = ap taken (acted_same r x act)
-  done_same r x list Decision.Idle = refl
-  done_same r x list (Decision.Build j k) = refl
-  done_same r x list (Decision.File j k) = refl
+  done_same r x list (Err answer) = refl
+  done_same r x list (Ok (Deed.Submit request)) = refl
+  done_same r x list (Ok (Deed.Issue y name content)) = refl
+  done_same r x list (Ok (Deed.Act act)) = ap taken (acted_same r x act)
+  done_same r x list (Ok Deed.Idle) = refl
+  done_same r x list (Ok (Deed.Build j k)) = refl
+  done_same r x list (Ok (Deed.File j k)) = refl
 
   pub event_same : (r : Room) (e : Event) (list : List ℕ) → on_event (same_table kit patience events) r e list ≡ on_event kit r e list
   unfolding on_event

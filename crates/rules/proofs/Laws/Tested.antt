@@ -4,19 +4,20 @@
 use Rattle.std.proofs.Common.{◌≡◌, Bool, ◌&&◌, ◌||◌, ◌≢◌, List, ℕ, suc, ◌≤◌, ◌<◌, length, eqb, subst, arith, eqb-true, leb-true, leb-false}
 use Rattle.std.proofs.Math.Path.{refl}
 use Rattle.std.proofs.Math.Bool.{true, false, not}
-use Rattle.std.proofs.Math.Option.{Option, none, some}
+use Rattle.std.specs.Prelude.{Option, None, Some, Ok, Err}
 use Prim.{Unit, tt}
 use Rattle.std.proofs.Math.Dec.{leb}
 use borrow.Author.Tests.{eqb-false}
+use Rattle.terms.specs.declared.Refusal.{Refusal}
 use Rattle.terms.specs.Limits.{ag, up, sw, places_max, requests_max, filed_max}
 use Rattle.terms.specs.Lists.{nth, holds, is_some}
 use Rattle.terms.specs.ListLaws.{pick_elim, no_way, and_l, and_r, or_l, or_r, not_was_true, not_was_false}
 use Rattle.terms.specs.Kit.{Kit, GoodEvent}
 use Rattle.terms.specs.declared.Content.{Content}
 use Rattle.terms.specs.declared.Event.{Event}
-use Rattle.terms.specs.declared.Answer.{Answer}
 use Rattle.terms.specs.declared.Act.{Act}
-use Rattle.terms.specs.declared.Decision.{Decision}
+use Rattle.terms.specs.Numbers.{Decision}
+use Rattle.terms.specs.declared.Deed.{Deed}
 use Rattle.rules.specs.Table.{is_active, switch_leader}
 use Rattle.rules.specs.Room.{Room}
 use Rattle.rules.specs.Reading.{is_running, is_closed, is_faulty, entry_at, content_at, is_content, first_of, second_of}
@@ -29,9 +30,9 @@ use Rattle.rules.specs.Deliver.{decide_content, decide_receive, decide_deliver}
 use Rattle.rules.specs.Switching.{built, decide_panic, decide_build, is_valid_filing, decide_hold, decide_hand}
 use Rattle.rules.specs.Decide.{concerned, decide}
 
-pub none_of : (o : Option ℕ) → is_some o ≡ false → o ≡ none
-none_of none e = refl
-none_of (some n) e = no_way (cc)
+pub none_of : (o : Option ℕ) → is_some o ≡ false → o ≡ None
+none_of None e = refl
+none_of (Some n) e = no_way (cc)
 
 -- ---- the rows
 
@@ -53,25 +54,25 @@ module _ (kit : Kit) (r : Room) (e : Event) (x : ℕ) where
   pub record ToPrepare (sender value request : ℕ) : Type 0 where
     pub delivered : Delivered sender ag value
     pub from_leader : sender ≡ kit.leader
-    pub content : content_at (r.counter sender ag) value ≡ some (Content.Prepare request)
+    pub content : content_at (r.counter sender ag) value ≡ Some (Content.Prepare request)
     pub new : New request
 
   pub record ToCommit (sender value : ℕ) : Type 0 where
     pub delivered : Delivered sender ag value
     pub from_other : sender ≢ kit.leader
     pub exists : value ≤ length (r.replica x).noted
-    pub content : content_at (r.counter sender ag) value ≡ some (Content.Commit (entry_at (r.replica x).noted value) value)
+    pub content : content_at (r.counter sender ag) value ≡ Some (Content.Commit (entry_at (r.replica x).noted value) value)
 
   pub record ToKnownPair (sender value : ℕ) : Type 0 where
     pub delivered : Delivered sender up value
     pub exists : value ≤ length (r.replica x).noted
     pub content
-        : content_at (r.counter sender up) value ≡ some (Content.Update (entry_at (r.replica x).noted value) (entry_at (r.replica x).pair_marks value))
+        : content_at (r.counter sender up) value ≡ Some (Content.Update (entry_at (r.replica x).noted value) (entry_at (r.replica x).pair_marks value))
 
   pub record ToNewPair (sender value request mark : ℕ) : Type 0 where
     pub delivered : Delivered sender up value
     pub beyond : length (r.replica x).noted < value
-    pub content : content_at (r.counter sender up) value ≡ some (Content.Update request mark)
+    pub content : content_at (r.counter sender up) value ≡ Some (Content.Update request mark)
     pub new : New request
 
   -- any name but ag and up: in a good kit that is sw
@@ -92,7 +93,7 @@ module _ (kit : Kit) (r : Room) (e : Event) (x : ℕ) where
     pub q : ℕ
     pub event : e ≡ Event.Hand p q x
     pub correct : is_faulty (r.replica x).condition ≡ false
-    pub free : (r.replica x).held ≡ none
+    pub free : (r.replica x).held ≡ None
     pub not_closed : is_closed (r.replica x).condition ≡ false
     pub stopped : is_running (r.replica x).condition ≡ false
     pub other : x ≢ switch_leader kit
@@ -130,7 +131,7 @@ module _ (kit : Kit) (r : Room) (e : Event) (x : ℕ) where
     pub leads : x ≡ switch_leader kit
     pub correct : is_faulty (r.replica x).condition ≡ false
     pub stopped : is_running (r.replica x).condition ≡ false
-    pub free : (r.replica x).held ≡ none
+    pub free : (r.replica x).held ≡ None
     pub counted_j : j ≡ (built kit r).j
     pub counted_k : k ≡ (built kit r).k
 
@@ -140,19 +141,19 @@ module _ (kit : Kit) (r : Room) (e : Event) (x : ℕ) where
 
   -- a refusal says nothing
   abbrev pub Tested : Decision → Type 0
-  Tested (Decision.Refuse answer) = Unit
-  Tested (Decision.Submit request) = ToSubmit request
-  Tested (Decision.Issue y name content) = ToIssue y name content
-  Tested (Decision.Act act) = ToAct act
-  Tested Decision.Idle = e ≡ Event.Idle
-  Tested (Decision.Build j k) = ToBuild j k
-  Tested (Decision.File j k) = ToFile j k
+  Tested (Err answer) = Unit
+  Tested (Ok (Deed.Submit request)) = ToSubmit request
+  Tested (Ok (Deed.Issue y name content)) = ToIssue y name content
+  Tested (Ok (Deed.Act act)) = ToAct act
+  Tested (Ok Deed.Idle) = e ≡ Event.Idle
+  Tested (Ok (Deed.Build j k)) = ToBuild j k
+  Tested (Ok (Deed.File j k)) = ToFile j k
 
 -- ---- the law
 
 module _ (kit : Kit) (r : Room) where
   -- down a chain of refusals: of what follows a test it is known that the test failed
-  past : (e : Event) (x : ℕ) (t : Bool) (a : Answer) (d : Decision) → (t ≡ false → Tested kit r e x d) → Tested kit r e x (refuse_if t a d)
+  past : (e : Event) (x : ℕ) (t : Bool) (a : Refusal) (d : Decision) → (t ≡ false → Tested kit r e x d) → Tested kit r e x (refuse_if t a d)
   unfolding refuse_if
   past e x true a d f = tt
   past e x false a d f = f refl

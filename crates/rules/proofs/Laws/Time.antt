@@ -1,8 +1,7 @@
 -- The clock is the sum of the gaps; ticks never fall along the submissions and none is past the clock; late once is late for ever, at
 -- that tick. Assumes nothing.
-use Rattle.std.specs.Prelude.{◌≡◌, refl, List, [], ◌∷◌, ℕ, ◌+◌, ◌≤◌, length, take}
+use Rattle.std.specs.Prelude.{◌≡◌, refl, List, [], ◌∷◌, ℕ, ◌+◌, ◌≤◌, length, take, Option, Some}
 use Rattle.std.proofs.Common.{ap, ◌∙◌, ⊎_elim, arith}
-use Rattle.std.proofs.Math.Option.{Option, some}
 use Rattle.terms.specs.Lists.{nth, is_some}
 use Rattle.terms.specs.ListLaws.{nth-snoc_inv, nth-lt, length-snoc, no_way}
 use Rattle.terms.specs.Kit.{Kit, Entry}
@@ -60,22 +59,22 @@ clock_is_sum kit n = omega (arith, play_clock kit (fresh_room kit) (take n kit.e
 
 -- ---- late
 
-pub late_stays : (kit : Kit) (t m n : ℕ) → m ≤ n → (after kit m).late ≡ some t → (after kit n).late ≡ some t
+pub late_stays : (kit : Kit) (t m n : ℕ) → m ≤ n → (after kit m).late ≡ Some t → (after kit n).late ≡ Some t
 late_stays kit t m n l =
-    later_keeps kit (λ (r : Room). r.late ≡ some t)
+    later_keeps kit (λ (r : Room). r.late ≡ Some t)
     (λ r e h. step_late kit r e ∙ (tick_ticked kit r e.gap).late (ap (λ (z : Option ℕ). is_some z) h) ∙ h) m n l
 
 -- ---- the ticks
 
 -- ticks that never fall
 abbrev pub NeverFall : List ℕ → Type 0
-NeverFall ticks = (i j t u : ℕ) → i ≤ j → nth ticks i ≡ some t → nth ticks j ≡ some u → t ≤ u
+NeverFall ticks = (i j t u : ℕ) → i ≤ j → nth ticks i ≡ Some t → nth ticks j ≡ Some u → t ≤ u
 
 pub record Timed (r : Room) : Type 0 where
   -- each submission has its tick
   pub paired : length r.ticks ≡ length r.submitted
   -- none is past the clock
-  pub past : (i t : ℕ) → nth r.ticks i ≡ some t → t ≤ r.clock
+  pub past : (i t : ℕ) → nth r.ticks i ≡ Some t → t ≤ r.clock
   -- none is below an earlier one
   pub rising : NeverFall r.ticks
 

@@ -1,7 +1,15 @@
--- `holds`: where it is found, the invariant says that no newer place holds it. Assumes nothing.
-use Rattle.std.proofs.Common.{arith}
-use Rattle.terms.proofs.Searching.{found}
+-- `holds`: what is found from the newest end on is what the list holds. Assumes nothing.
+use Rattle.std.specs.List.{list_any}
+use Rattle.std.proofs.Common.{◌≡◌, ◌==◌, ◌∙◌, reverse, rules}
+use Rattle.std.proofs.lemmas.Iterator.Adapters.{YieldsList-from_rev_slice}
+use Rattle.std.proofs.lemmas.Iterator.Search.{any_from_yields_List}
+use Rattle.terms.proofs.Searching.{holds_newest}
 use Rattle.terms.proofs.holds.Goals as goal
 
-pub returns-then-all-i : goal.returns-then-all-i
-returns-then-all-i c = found c.loop-i.invariant (omega arith) c.if-all-i.true
+pub returns : goal.returns
+returns c =
+    let list = c.args.list.now in
+    let e : c.any.result ≡ list_any (λ noted. c.args.request == noted) (reverse list) =
+    any_from_yields_List (λ noted. c.args.request == noted) _ _ _ c.any.ensures.ran (YieldsList-from_rev_slice list (search rules))
+    (λ x b q k. search rules) in
+    e ∙ holds_newest c.args.request list

@@ -3,14 +3,14 @@ use Rattle.std.proofs.Common.{sym, arith}
 use Rattle.kit.proofs.Writing.{counting_first, counting_less, counting_next}
 use Rattle.kit.proofs.writer.count_numbers.Goals as goal
 
-pub loop-value-init : goal.loop-value-init
-loop-value-init c = counting_first c.args.bytes.now
+pub loop-found-init : goal.loop-found-init
+loop-found-init c = counting_first c.args.bytes.now
 
 pub overflow_add-count : goal.overflow_add-count
-overflow_add-count c = omega (arith, counting_less c.loop-value.invariant (sym c.in-Number.ensures))
+overflow_add-count c = omega (arith, counting_less c.loop-found.invariant (sym c.in-Ok.ensures))
 
-pub loop-value-smaller : goal.loop-value-smaller
-loop-value-smaller c = (counting_less c.loop-value.invariant (sym c.in-Number.ensures)).1
+pub loop-found-smaller : goal.loop-found-smaller
+loop-found-smaller c = (counting_less c.loop-found.invariant (sym c.in-Ok.ensures)).1
 
-pub loop-value-preserved : goal.loop-value-preserved
-loop-value-preserved c = counting_next c.loop-value.invariant (sym c.in-Number.ensures)
+pub loop-found-preserved : goal.loop-found-preserved
+loop-found-preserved c = counting_next c.loop-found.invariant (sym c.in-Ok.ensures)

@@ -4,8 +4,8 @@ use Rattle.std.proofs.Common.{length, ◌-◌}
 use Rattle.kit.proofs.Writing.{Counting}
 use Rattle.kit.proofs.writer.count_numbers.Given as goal
 
-abbrev pub invariant-loop-value : goal.invariant-loop-value
-invariant-loop-value l = Counting l.bytes l.count l.at
+abbrev pub invariant-loop-found : goal.invariant-loop-found
+invariant-loop-found l = Counting l.bytes l.count l.at
 
-abbrev pub decreases-loop-value : goal.decreases-loop-value
-decreases-loop-value l = length l.bytes - l.at
+abbrev pub decreases-loop-found : goal.decreases-loop-found
+decreases-loop-found l = length l.bytes - l.at

@@ -3,5 +3,5 @@ use Rattle.std.proofs.Common.{refl, arith}
 use Rattle.kit.proofs.Writing.{putting_next}
 use Rattle.kit.proofs.writer.put.Goals as goal
 
-pub loop-i-preserved : goal.loop-i-preserved
-loop-i-preserved c = putting_next c.loop-i.invariant (omega arith) (omega arith) c.in-Next.ensures c.in-Next.next refl
+pub loop-n-preserved : goal.loop-n-preserved
+loop-n-preserved c = putting_next c.loop-n.invariant (omega arith) (omega arith) c.in-Some.ensures c.in-Some.next refl

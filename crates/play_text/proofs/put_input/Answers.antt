@@ -1,0 +1,13 @@
+-- `put_input`: by the length alone, before anything else. Assumes nothing.
+use Rattle.std.proofs.Common.{lt-ltb, le-ltb}
+use Rattle.text.specs.PageLaws.{puts_as}
+use Rattle.play_text.specs.Printed.{program_text}
+use Rattle.play_text.proofs.put_input.Goals as goal
+
+pub returns-then-bytes-gt-BYTES_MAX : goal.returns-then-bytes-gt-BYTES_MAX
+unfolding program_text
+returns-then-bytes-gt-BYTES_MAX c = puts_as c.put_kit.ensures (rw (c.from.ensures, lt-ltb _ _ c.if-bytes-gt-BYTES_MAX.true))
+
+pub returns : goal.returns
+unfolding program_text
+returns c = puts_as c.put_printed.ensures (rw (le-ltb _ _ c.if-bytes-gt-BYTES_MAX.false))
