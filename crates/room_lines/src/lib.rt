@@ -419,8 +419,7 @@ impl<'a> Pieces for Records<'a> {
 
 // ---- the whole
 
-// The room after n events: event, submissions, histories, counters, replicas. The parts are lent one by one, as the player has them: in a struct
-// of them the loop could not lend some to be read and one to be changed.
+// The room after n events: event, submissions, histories, counters, replicas. The parts are lent one by one, as the player has them.
 pub fn put_room(
     page: &mut Page,
     log: &Log,
