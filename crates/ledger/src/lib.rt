@@ -18,7 +18,7 @@ pub struct Counter {
 }
 
 // The counters, three for each replica.
-#[derive(Drop)]
+#[derive(Clone, Copy)]
 pub struct Book {
     pub counters: [Counter; COUNTERS],
 }

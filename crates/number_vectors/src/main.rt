@@ -4,6 +4,7 @@
 #![tactic(auto)]
 
 ghost use Rattle.std.specs.Prelude.{◌≡◌, ◌≤◌, length, take};
+ghost use Rattle.number.specs.Number.{number_at};
 ghost use Rattle.number_vectors.specs.Tries.{place_after};
 
 use number::{Fault, Found};
@@ -52,14 +53,22 @@ fn unhex(hex: &[u8], out: &mut [u8]) -> usize
 fn try_bytes(rt: &impl Print, bytes: &[u8]) -> io::Result<()> {
     let mut at = 0;
     loop {
-        let found = number::read_number(bytes, at);
-        print_found(rt, found)?;
-        at = place_after(found, bytes.len());
+        let (next, printed) = try_place(rt, bytes, at);
+        printed?;
+        at = next;
         if bytes.len() <= at {
             return rt.write_all(b"\n");
         }
         rt.write_all(b", ")?;
     }
+}
+
+// Prints what stands at a place, and answers where to go on, and whether it was printed.
+fn try_place(rt: &impl Print, bytes: &[u8], at: usize) -> (usize, io::Result<()>)
+    ensures { result.0 ≡ place_after (length bytes.now) (number_at bytes.now at) }
+{
+    let found = number::read_number(bytes, at);
+    (place_after(found, bytes.len()), print_found(rt, found))
 }
 
 // Where to go on: after the number that was read, or at the end after a fault.

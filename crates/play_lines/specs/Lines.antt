@@ -1,5 +1,6 @@
 -- The lines that are printed, as bytes. Laws: LinesLaws. Assumes nothing.
-use Rattle.std.specs.Prelude.{Option, Some, None, List, [], ◌∷◌, ◌++◌, ℕ, zero, suc, length}
+use Rattle.std.specs.Prelude.{Option, Some, None, List, [], ◌∷◌, ◌++◌, ℕ, zero, suc, length, ltb}
+use Rattle.terms.specs.Lists.{pick}
 use Rattle.terms.specs.Numbers.{condition_word}
 use Rattle.terms.specs.declared.Condition.{Condition}
 use Rattle.text.specs.Text.{decimal}
@@ -46,3 +47,7 @@ kit_line number = (0x6b ∷ 0x69 ∷ 0x74 ∷ []) ++ (spaced number ++ newline)
 unfoldable pub lines_from : ℕ → ℕ → (ℕ → List ℕ) → List ℕ
 lines_from i zero line = []
 lines_from i (suc m) line = line i ++ lines_from (suc i) m line
+
+-- the piece of thing i of so many, and nothing where there is none
+unfoldable pub piece_of : ℕ → (ℕ → List ℕ) → ℕ → List ℕ
+piece_of many piece i = pick (ltb i many) (piece i) []

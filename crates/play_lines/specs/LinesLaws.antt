@@ -1,13 +1,14 @@
 -- Laws of Lines: texts that are put line by line, and lists read in part. Assumes nothing.
 use Rattle.std.specs.Prelude.{◌≡◌, refl, List, [], ◌∷◌, ◌++◌, length, get_or, drop, ℕ, zero, suc, ◌+◌, ◌-◌, ◌≤◌, ◌<◌}
-use Rattle.std.proofs.Common.{◌∙◌, append_assoc, le_of_suc-le-suc, not-suc-le-zero, drop_of_length-le, drop-cons, arith}
+use Rattle.std.proofs.Common.{◌∙◌, append_assoc, le_of_suc-le-suc, not-suc-le-zero, drop_of_length-le, drop-cons, arith, lt-ltb, le-ltb}
 use Rattle.std.proofs.Math.Path.{sym, ap}
 use Rattle.std.proofs.Math.Numerals.{add-one}
 use Rattle.text.specs.Text.{Put, laid, Lays}
 use Rattle.text.specs.TextLaws.{laid_append, length_after}
 use Rattle.text.specs.Page.{Puts}
+use Rattle.text.specs.PageLaws.{puts_as, puts_none}
 use Rattle.text.specs.declared.Page.{Page}
-use Rattle.play_lines.specs.Lines.{spaced, requests_text, lines_from}
+use Rattle.play_lines.specs.Lines.{spaced, requests_text, lines_from, piece_of}
 
 -- ---- a text that is partly put: what is still to come, put from here on, gives what the whole gives from the start
 
@@ -43,6 +44,23 @@ module _ {p : Page} {t : List ℕ} {q : Page} {u : List ℕ} (e : Awaits p t q u
   awaits_over d = record { same = e.same; lays = rest_over e.rest d }
 
 -- ---- one line more
+
+-- a thing that there is has its piece
+pub piece_there : (many : ℕ) (piece : ℕ → List ℕ) (i : ℕ) → i < many → piece_of many piece i ≡ piece i
+unfolding piece_of
+piece_there many piece i h = rw (lt-ltb i many h)
+
+-- and one that there is not has none
+pub piece_past : (many : ℕ) (piece : ℕ → List ℕ) (i : ℕ) → many ≤ i → piece_of many piece i ≡ []
+unfolding piece_of
+piece_past many piece i h = rw (le-ltb i many h)
+
+-- put on a page
+pub puts_there : {p q : Page} (many : ℕ) (piece : ℕ → List ℕ) (i : ℕ) → i < many → Puts p (piece i) q → Puts p (piece_of many piece i) q
+puts_there many piece i h d = puts_as d (sym (piece_there many piece i h))
+
+pub puts_past : (p : Page) (many : ℕ) (piece : ℕ → List ℕ) (i : ℕ) → many ≤ i → Puts p (piece_of many piece i) p
+puts_past p many piece i h = puts_as (puts_none p) (sym (piece_past many piece i h))
 
 module _ (i n : ℕ) (line : ℕ → List ℕ) where
   pub lines_next : i < n → lines_from i (n - i) line ≡ line i ++ lines_from (i + 1) (n - (i + 1)) line

@@ -6,7 +6,7 @@ ghost use Rattle.std.specs.Prelude.{◌≡◌, List, ℕ, ◌<◌, length, get_o
 ghost use Rattle.terms.specs.Limits.{events_max, replicas_max};
 ghost use Rattle.terms.specs.Numbers.{condition_word};
 ghost use Rattle.text.specs.Page.{Puts};
-ghost use Rattle.play_lines.specs.Lines.{lines_from, spaced, event_line, replica_name, settled_line, late_text, kit_line};
+ghost use Rattle.play_lines.specs.Lines.{lines_from, piece_of, spaced, event_line, replica_name, settled_line, late_text, kit_line};
 ghost use Rattle.play_lines.specs.PlayLines.{event_at, replica_at, lines_of_play};
 
 use ledger::Book;
@@ -44,10 +44,9 @@ pub trait Pieces {
     fn many(&self) -> usize
         ensures { result ≡ many self.now };
 
-    // The piece of thing i.
+    // The piece of thing i, and nothing where there is none.
     fn put(&self, page: &mut Page, i: usize)
-        requires { i < many self.now }
-        ensures { Puts page.old (piece self.now i) page.new };
+        ensures { Puts page.old (piece_of (many self.now) (piece self.now) i) page.new };
 }
 
 // All pieces, in their order.
@@ -87,9 +86,12 @@ impl<'a> Pieces for Events<'a> {
         self.n.min(EVENTS)
     }
 
+    #[tactic(auto, using(crate::specs::LinesLaws::puts_past))]
     fn put(&self, page: &mut Page, i: usize) {
-        let answer = u64::from(self.log.answers[i]);
-        put_event(page, (i + 1) as u64, self.log.clocks[i], answer);
+        if i < self.many() {
+            let answer = u64::from(self.log.answers[i]);
+            put_event(page, (i + 1) as u64, self.log.clocks[i], answer);
+        }
     }
 }
 
@@ -122,8 +124,11 @@ impl<'a> Pieces for Spaced<'a> {
         self.list.len()
     }
 
+    #[tactic(auto, using(crate::specs::LinesLaws::puts_past))]
     fn put(&self, page: &mut Page, i: usize) {
-        put_next(page, u64::from(self.list[i]));
+        if let Some(request) = self.list.get(i) {
+            put_next(page, u64::from(*request));
+        }
     }
 }
 
@@ -184,15 +189,18 @@ impl<'a> Pieces for Lines<'a> {
         self.roles.size.min(REPLICAS)
     }
 
+    #[tactic(auto, using(crate::specs::LinesLaws::puts_past))]
     fn put(&self, page: &mut Page, i: usize) {
-        put_replica(
-            page,
-            i,
-            self.replicas,
-            self.roles,
-            self.histories,
-            self.book,
-        );
+        if i < self.many() {
+            put_replica(
+                page,
+                i,
+                self.replicas,
+                self.roles,
+                self.histories,
+                self.book,
+            );
+        }
     }
 }
 

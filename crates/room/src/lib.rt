@@ -23,7 +23,7 @@ pub struct Desk {
 
 // What is said of each event: the number that it was answered by, and the clock after it. Two arrays, not one of pairs: the printed room reads
 // the answers alone.
-#[derive(Drop)]
+#[derive(Clone, Copy)]
 pub struct Log {
     pub answers: Answers,
     pub clocks: Clocks,

@@ -2,7 +2,10 @@
 use Rattle.std.specs.Prelude.{◌≡◌, refl, Bool, not, ◌||◌, List, [], ◌∷◌, ◌++◌, length, get_or, drop, eqb, ℕ, zero, suc, ◌+◌, ◌-◌, ◌≤◌, ◌<◌, Some}
 use Rattle.std.proofs.Common.{sym, ap, ◌∙◌, arith, drop_of_length-le, drop-cons}
 use Rattle.std.proofs.Math.Numerals.{add-one}
+use Rattle.std.proofs.Math.Option.{some}
 use Rattle.terms.specs.Lists.{pick, nth}
+use Rattle.terms.specs.ListLaws.{at_std}
+use Rattle.terms.specs.AnyLevel as any
 use Rattle.text.specs.Text.{decimal}
 use Rattle.play_lines.specs.Lines.{lines_from}
 use Rattle.room_lines.specs.Pieces.{dash, commas, listed, numbered, entry_text, entries_from}
@@ -58,14 +61,19 @@ entries_ext (suc m) c f g begun e =
 
 -- ---- numbered lists
 
--- lines of which each is an element's: from number i on, and from the first
-lines_numbered : {A : Type 0} (l : List A) (i : ℕ) (line : ℕ → List ℕ) (text : ℕ → A → List ℕ)
-    → ((k : ℕ) (a : A) → nth l k ≡ Some a → (n : ℕ) → n ≡ i + k → line n ≡ text n a) → lines_from i (length l) line ≡ numbered text i l
+-- lines of which each is an element's, of a list of any level: from number i on, and from the first
+lines_numbered {ℓ} : {A : Type ℓ} (l : List A) (i : ℕ) (line : ℕ → List ℕ) (text : ℕ → A → List ℕ)
+    → ((k : ℕ) (a : A) → any.nth l k ≡ some a → (n : ℕ) → n ≡ i + k → line n ≡ text n a) → lines_from i (length l) line ≡ numbered text i l
 unfolding lines_from
 lines_numbered [] i line text e = refl
 lines_numbered (a ∷ l) i line text e =
     rw (e 0 a refl i (omega arith), lines_numbered l (suc i) line text (λ k b h n d. e (suc k) b h n (omega (arith, d))))
 
+pub lines_each_any {ℓ} : {A : Type ℓ} (l : List A) (line : ℕ → List ℕ) (text : ℕ → A → List ℕ)
+    → ((k : ℕ) (a : A) → any.nth l k ≡ some a → line k ≡ text k a) → lines_from 0 (length l) line ≡ numbered text 0 l
+lines_each_any l line text e = lines_numbered l 0 line text (λ k a h n d. let z : n ≡ k = omega (arith, d) in rw z (e k a h))
+
+-- the same by std's option
 pub lines_each : {A : Type 0} (l : List A) (line : ℕ → List ℕ) (text : ℕ → A → List ℕ)
     → ((k : ℕ) (a : A) → nth l k ≡ Some a → line k ≡ text k a) → lines_from 0 (length l) line ≡ numbered text 0 l
-lines_each l line text e = lines_numbered l 0 line text (λ k a h n d. let z : n ≡ k = omega (arith, d) in rw z (e k a h))
+lines_each l line text e = lines_each_any l line text (λ k a h. e k a (at_std l k h))

@@ -37,9 +37,12 @@ impl<'a> Pieces for Commas<'a> {
         self.list.len()
     }
 
+    #[tactic(auto, using(play_lines::specs::LinesLaws::puts_past))]
     fn put(&self, page: &mut Page, i: usize) {
-        page.put_byte(b',');
-        page.put_decimal(u64::from(self.list[i]));
+        if let Some(number) = self.list.get(i) {
+            page.put_byte(b',');
+            page.put_decimal(u64::from(*number));
+        }
     }
 }
 
@@ -126,9 +129,12 @@ impl<'a> Pieces for First<'a> {
         self.n.min(REQUESTS)
     }
 
+    #[tactic(auto, using(play_lines::specs::LinesLaws::puts_past))]
     fn put(&self, page: &mut Page, i: usize) {
-        let request = self.submissions.requests[i];
-        put_submission(page, request, self.submissions.ticks[i]);
+        if i < self.many() {
+            let request = self.submissions.requests[i];
+            put_submission(page, request, self.submissions.ticks[i]);
+        }
     }
 }
 
@@ -171,8 +177,11 @@ impl<'a> Pieces for Filed<'a> {
         self.n.min(HISTORIES)
     }
 
+    #[tactic(auto, using(play_lines::specs::LinesLaws::puts_past))]
     fn put(&self, page: &mut Page, i: usize) {
-        put_history(page, i, &self.histories[i]);
+        if i < self.many() {
+            put_history(page, i, &self.histories[i]);
+        }
     }
 }
 
@@ -225,9 +234,12 @@ impl<'a> Pieces for Contents<'a> {
         self.n.min(PLACES)
     }
 
+    #[tactic(auto, using(play_lines::specs::LinesLaws::puts_past))]
     fn put(&self, page: &mut Page, i: usize) {
-        let value = (i + 1) as u32;
-        put_choice(page, self.book.look_up(self.x, self.name, value));
+        if i < self.many() {
+            let value = (i + 1) as u32;
+            put_choice(page, self.book.look_up(self.x, self.name, value));
+        }
     }
 }
 
@@ -272,8 +284,11 @@ impl<'a> Pieces for Counters<'a> {
         self.size.min(REPLICAS)
     }
 
+    #[tactic(auto, using(play_lines::specs::LinesLaws::puts_past))]
     fn put(&self, page: &mut Page, i: usize) {
-        put_own(page, self.book, i);
+        if i < self.many() {
+            put_own(page, self.book, i);
+        }
     }
 }
 
@@ -405,15 +420,18 @@ impl<'a> Pieces for Records<'a> {
         self.roles.size.min(REPLICAS)
     }
 
+    #[tactic(auto, using(play_lines::specs::LinesLaws::puts_past))]
     fn put(&self, page: &mut Page, i: usize) {
-        put_replica(
-            page,
-            i,
-            self.replicas,
-            self.roles,
-            self.histories,
-            self.book,
-        );
+        if i < self.many() {
+            put_replica(
+                page,
+                i,
+                self.replicas,
+                self.roles,
+                self.histories,
+                self.book,
+            );
+        }
     }
 }
 

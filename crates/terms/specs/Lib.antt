@@ -5,6 +5,8 @@ pub mod MarkLaws
 pub mod Numbers
 pub mod NumbersLaws
 pub mod Kit
+pub mod AnyLevel
+pub mod AnyLevelLaws
 pub mod Lists
 pub mod ListLaws
 pub mod Tabulate

@@ -3,9 +3,12 @@
 use Rattle.std.specs.Prelude.{◌≡◌, ℕ, zero, suc, ◌+◌, ◌<◌, ◌≤◌, Bool, true, false, not, ◌&&◌, ◌||◌, ◌≢◌, ◌⊎◌, List, [], ◌∷◌, ◌++◌, length, get_or, take, drop, ◌==◌, nat_lt, refl, None, Some}
 use Rattle.std.proofs.Common.{sym, ap, ◌∙◌, inl, inr, ⊎_elim, le_of_suc-le-suc, arith, length-append, ltb-true, ltb-false, eqb-true, eq-eqb}
 use Rattle.std.proofs.Math.Bool.{or-true}
-use Rattle.std.proofs.Math.Seq.{drop-append_seam}
+use Rattle.std.proofs.Math.Option as logic
+use Rattle.std.proofs.Math.Option.{none, some}
 use Rattle.std.proofs.lemmas.Bool.{eqb-false}
 use Rattle.terms.specs.Lists.{pick, all_below, any_below, all_of, holds, distinct, least_over, nth, ◌⊑◌, Sub, Agree, Once}
+use Rattle.terms.specs.AnyLevel as any
+use Rattle.terms.specs.AnyLevelLaws as law
 
 -- split a goal on a test: the goal's family, the two cases with their equation
 pub pick_elim {ℓ ℓ'} : {A : Type ℓ} (P : A → Type ℓ') (t : Bool) {a b : A} → (t ≡ true → P a) → (t ≡ false → P b) → P (pick t a b)
@@ -47,73 +50,78 @@ pub not_was_true : (a : Bool) → not a ≡ true → a ≡ false
 not_was_true true e = cc
 not_was_true false e = refl
 
+-- ---- elements by place and prefixes, as AnyLevel has them, by std's option
+
 module _ {A : Type 0} where
+  std_nth : (l : List A) (i : ℕ) → any.std_option (any.nth l i) ≡ nth l i
+  std_nth [] i = refl
+  std_nth (x ∷ xs) zero = refl
+  std_nth (x ∷ xs) (suc i) = std_nth xs i
+
+  std_some : (o : logic.Option A) {a : A} → any.std_option o ≡ Some a → o ≡ some a
+  std_some none e = no_way (cc)
+  std_some (some b) e = cc
+
+  std_none : (o : logic.Option A) → any.std_option o ≡ None → o ≡ none
+  std_none none e = refl
+  std_none (some b) e = no_way (cc)
+
+  -- the element at a place, by std's option, is the one by the logic's
+  at_any : (l : List A) (i : ℕ) {a : A} → nth l i ≡ Some a → any.nth l i ≡ some a
+  at_any l i e = std_some (any.nth l i) (std_nth l i ∙ e)
+
+  pub at_std : (l : List A) (i : ℕ) {a : A} → any.nth l i ≡ some a → nth l i ≡ Some a
+  at_std l i e = sym (std_nth l i) ∙ ap any.std_option e
+
   pub nth-append : (l m : List A) (i : ℕ) {a : A} → nth l i ≡ Some a → nth (l ++ m) i ≡ Some a
-  nth-append [] m i e = cc
-  nth-append (x ∷ xs) m zero e = e
-  nth-append (x ∷ xs) m (suc i) e = nth-append xs m i e
+  nth-append l m i e = at_std (l ++ m) i (law.nth-append l m i (at_any l i e))
 
   pub nth-lt : (l : List A) (i : ℕ) {a : A} → nth l i ≡ Some a → i < length l
-  nth-lt [] i e = no_way (cc)
-  nth-lt (x ∷ xs) zero e = omega arith
-  nth-lt (x ∷ xs) (suc i) e = omega (arith, nth-lt xs i e)
+  nth-lt l i e = law.nth-lt l i (at_any l i e)
 
   pub nth_in : (l : List A) (i : ℕ) → i < length l → (a : A) × (nth l i ≡ Some a)
-  nth_in [] i h = absurd (omega arith)
-  nth_in (x ∷ xs) zero h = (x, refl)
-  nth_in (x ∷ xs) (suc i) h = nth_in xs i (le_of_suc-le-suc h)
+  nth_in l i h = let p = law.nth_in l i h in (p.0, at_std l i p.1)
 
   -- a list with something at each place below n has n elements, one with nothing at place i has no more than i
   pub nth_full : (l : List A) (n : ℕ) → ((i : ℕ) → i < n → (a : A) × (nth l i ≡ Some a)) → n ≤ length l
-  nth_full l n f =
-      split (nat_lt (length l) n)
-      (λ t. let h = f (length l) (ltb-true (length l) n t) in absurd (omega (arith, nth-lt l (length l) h.1)))
-      (λ t. ltb-false (length l) n t)
+  nth_full l n f = law.nth_full l n (λ i h. let p = f i h in (p.0, at_any l i p.1))
 
   pub nth-none : (l : List A) (i : ℕ) → nth l i ≡ None → length l ≤ i
-  nth-none l i e =
-      split (nat_lt i (length l)) (λ t. let h = nth_in l i (ltb-true i (length l) t) in no_way (cc (h.1, e))) (λ t. ltb-false i (length l) t)
+  nth-none l i e = law.nth-none l i (std_none (any.nth l i) (std_nth l i ∙ e))
 
   pub nth-snoc : (l : List A) (a : A) → nth (l ++ (a ∷ [])) (length l) ≡ Some a
-  nth-snoc [] a = refl
-  nth-snoc (x ∷ xs) a = nth-snoc xs a
+  nth-snoc l a = at_std (l ++ (a ∷ [])) (length l) (law.nth-snoc l a)
 
   pub nth-snoc_inv : (l : List A) (a : A) (i : ℕ) {b : A} → nth (l ++ (a ∷ [])) i ≡ Some b → (nth l i ≡ Some b) ⊎ ((i ≡ length l) × (a ≡ b))
-  nth-snoc_inv [] a zero e = inr (refl, cc)
-  nth-snoc_inv [] a (suc i) e = inl e
-  nth-snoc_inv (x ∷ xs) a zero e = inl e
-  nth-snoc_inv (x ∷ xs) a (suc i) e = ⊎_elim (λ p. inl p) (λ p. inr (ap suc p.0, p.1)) (nth-snoc_inv xs a i e)
+  nth-snoc_inv l a i e = ⊎_elim (λ p. inl (at_std l i p)) (λ p. inr p) (law.nth-snoc_inv l a i (at_any (l ++ (a ∷ [])) i e))
 
   pub nth_app_inv : (l m : List A) (i : ℕ) {b : A} → nth (l ++ m) i ≡ Some b → (nth l i ≡ Some b) ⊎ ((j : ℕ) × (i ≡ length l + j) × (nth m j ≡ Some b))
-  nth_app_inv [] m i e = inr (i, omega arith, e)
-  nth_app_inv (x ∷ xs) m zero e = inl e
-  nth_app_inv (x ∷ xs) m (suc i) e = ⊎_elim (λ p. inl p) (λ p. inr (p.0, omega (arith, p.1), p.2)) (nth_app_inv xs m i e)
+  nth_app_inv l m i e =
+      ⊎_elim (λ p. inl (at_std l i p)) (λ p. inr (p.0, p.1, at_std m p.0 p.2)) (law.nth_app_inv l m i (at_any (l ++ m) i e))
 
   pub nth-take : (n : ℕ) (l : List A) (i : ℕ) {a : A} → nth (take n l) i ≡ Some a → (i < n) × (nth l i ≡ Some a)
-  nth-take zero l i e = no_way (cc)
-  nth-take (suc n) [] i e = no_way (cc)
-  nth-take (suc n) (x ∷ xs) zero e = (omega arith, e)
-  nth-take (suc n) (x ∷ xs) (suc i) e = let h = nth-take n xs i e in (omega arith, h.1)
+  nth-take n l i e = let h = law.nth-take n l i (at_any (take n l) i e) in (h.0, at_std l i h.1)
 
   pub take_nth : (n : ℕ) (l : List A) (i : ℕ) {a : A} → i < n → nth l i ≡ Some a → nth (take n l) i ≡ Some a
-  take_nth zero l i h e = absurd (omega arith)
-  take_nth (suc n) [] i h e = e
-  take_nth (suc n) (x ∷ xs) zero h e = e
-  take_nth (suc n) (x ∷ xs) (suc i) h e = take_nth n xs i (le_of_suc-le-suc h) e
+  take_nth n l i h e = at_std (take n l) i (law.take_nth n l i h (at_any l i e))
+
+  any_sub : (l m : List A) → Sub l m → any.Sub l m
+  any_sub l m f i a e = at_any m i (f i a (at_std l i e))
 
   pub sub_prefix : (l m : List A) → Sub l m → l ⊑ m
-  sub_prefix [] m f = (m, refl)
-  sub_prefix (x ∷ xs) [] f = no_way (cc (f 0 x refl))
-  sub_prefix (x ∷ xs) (y ∷ ys) f =
-      let h = sub_prefix xs ys (λ i a e. f (suc i) a e) in
-      (h.0, cc (f 0 x refl, h.1))
+  sub_prefix l m f = law.sub_prefix l m (any_sub l m f)
 
   pub agree_prefix : (l m : List A) → Agree l m → (l ⊑ m) ⊎ (m ⊑ l)
-  agree_prefix [] m f = inl (m, refl)
-  agree_prefix (x ∷ xs) [] f = inr (x ∷ xs, refl)
-  agree_prefix (x ∷ xs) (y ∷ ys) f =
-      ⊎_elim (λ h. inl (h.0, cc (f 0 x y refl refl, h.1))) (λ h. inr (h.0, cc (f 0 x y refl refl, h.1)))
-      (agree_prefix xs ys (λ i a b e d. f (suc i) a b e d))
+  agree_prefix l m f = law.agree_prefix l m (λ i a b e d. f i a b (at_std l i e) (at_std m i d))
+
+  pub sub_length : (l m : List A) → Sub l m → length l ≤ length m
+  sub_length l m f = law.sub_length l m (any_sub l m f)
+
+  pub nth_drop : (k : ℕ) (l : List A) (i : ℕ) → nth (drop k l) i ≡ nth l (k + i)
+  nth_drop k l i = sym (std_nth (drop k l) i) ∙ ap any.std_option (law.nth_drop k l i) ∙ std_nth l (k + i)
+
+  pub nth_behind : (l m : List A) (i : ℕ) → nth (l ++ m) (length l + i) ≡ nth m i
+  nth_behind l m i = sym (std_nth (l ++ m) (length l + i)) ∙ ap any.std_option (law.nth_behind l m i) ∙ std_nth m i
 
 pub all_below_at : (n : ℕ) (t : ℕ → Bool) → all_below n t ≡ true → (i : ℕ) → i < n → t i ≡ true
 all_below_at zero t e i h = absurd (omega arith)
@@ -251,14 +259,3 @@ any_below_past (suc k) n t h e =
     (λ q. let ne = eqb-false n (suc k) q in
     let below : n ≤ k = omega arith in
     rw (e k below) (any_below_past k n t below e))
-
-pub sub_length : {A : Type 0} (l m : List A) → Sub l m → length l ≤ length m
-sub_length l m f = let h = sub_prefix l m f in rw (← h.1) (omega (arith, length-append l h.0))
-
-pub nth_drop : {A : Type 0} (k : ℕ) (l : List A) (i : ℕ) → nth (drop k l) i ≡ nth l (k + i)
-nth_drop zero l i = let z : 0 + i ≡ i = omega arith in rw z
-nth_drop (suc k) [] i = refl
-nth_drop (suc k) (x ∷ xs) i = let z : suc k + i ≡ suc (k + i) = omega arith in rw z (nth_drop k xs i)
-
-pub nth_behind : {A : Type 0} (l m : List A) (i : ℕ) → nth (l ++ m) (length l + i) ≡ nth m i
-nth_behind l m i = sym (nth_drop (length l) (l ++ m) i) ∙ ap (λ (z : List _). nth z i) (drop-append_seam l m)

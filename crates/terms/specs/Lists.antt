@@ -54,17 +54,19 @@ least_over (y ∷ ys) g d = min (g y) (least_over ys g d)
 
 -- ---- reading by place, prefixes
 
+module _ {ℓ} {A : Type ℓ} where
+  infix 40 ◌⊑◌
+  -- the first stands at the front of the second
+  abbrev pub ◌⊑◌ : List A → List A → Type ℓ
+  ◌⊑◌ l m = (s : List A) × (l ++ s ≡ m)
+
+-- of level 0, since std's option is; of every level in AnyLevel
 module _ {A : Type 0} where
   -- the element at a place, counted from 0
   abbrev pub nth : List A → ℕ → Option A
   nth [] n = None
   nth (x ∷ xs) zero = Some x
   nth (x ∷ xs) (suc n) = nth xs n
-
-  infix 40 ◌⊑◌
-  -- the first stands at the front of the second
-  abbrev pub ◌⊑◌ : List A → List A → Type 0
-  ◌⊑◌ l m = (s : List A) × (l ++ s ≡ m)
 
   -- the same, place by place
   abbrev pub Sub : List A → List A → Type 0

@@ -84,7 +84,7 @@ pub struct History {
 
 // ---- words
 
-// What a certificate says. A content's kind, a and b are `numbers_of_content`.
+// What a certificate says. A content's kind, a and b are `<[u32; 3]>::from(content)`.
 #[derive(Clone, Copy, PartialEq, Eq)]
 pub enum Content {
     // Of a request.

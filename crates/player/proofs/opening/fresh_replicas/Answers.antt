@@ -1,5 +1,6 @@
 -- `fresh_replicas`: what the map made of each number of the table. Assumes nothing.
-use Rattle.std.proofs.Common.{◌≡◌, ◌∙◌, sym, ℕ, ◌<◌, get_or, rules, ext_get_or}
+use Rattle.std.proofs.Common.{◌≡◌, ◌∙◌, sym, ℕ, ◌<◌, get_or, arith, ext_get_or}
+use Rattle.std.proofs.lemmas.Grind.{common_steps}
 use Rattle.terms.specs.Limits.{replicas_max}
 use Rattle.terms.specs.Kit.{marks_faulty}
 use Rattle.terms.specs.Tabulate.{tab, length_tab, get_or_tab}
@@ -18,5 +19,5 @@ returns c =
     (λ i h.
     let below : i < replicas_max = rw m.long at h in
     let called = m.at i 0 no_replica below in
-    let made : get_or c.map.result i no_replica ≡ f i = search rules in
+    let made : get_or c.map.result i no_replica ≡ f i = grind (arith, common_steps) in
     made ∙ sym (get_or_tab replicas_max f i no_replica below))

@@ -1,0 +1,13 @@
+-- A submission that there is. Assumes nothing.
+use Rattle.std.proofs.Common.{◌<◌, arith, min, rules}
+use Rattle.terms.specs.Limits.{requests_max}
+use Rattle.text.specs.PageLaws.{puts_as}
+use Rattle.room_lines.specs.RoomLines.{submission_at}
+use Rattle.play_lines.specs.LinesLaws.{puts_there}
+use Rattle.room_lines.proofs.FirstPieces.put.Goals as goal
+
+pub returns-then-i-many : goal.returns-then-i-many
+returns-then-i-many c =
+    let it = c.args.self.now in
+    let there : c.args.i < min it.n requests_max = omega (arith, c.many.ensures, c.if-i-many.true) in
+    puts_there (min it.n requests_max) (submission_at it.submissions.now) c.args.i there (puts_as c.put_submission.ensures (search rules))
