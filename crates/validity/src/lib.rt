@@ -117,6 +117,9 @@ fn is_filed(
 // The history of number h, of the first `count`, is valid at the switch leader's ag value p and up value q: both are HISTORY of it, and the
 // counters bear it out. `submitted` and `count` stand beside arrays, since memory is fixed: the desk counts what is in use.
 // h, p and q are one hand's numbers; nothing else takes them together, so that a struct for them would be no plainer.
+// It is kept out of its caller: there, what else is compiled decides where its loops come to lie, and a history of 64 requests that is handed
+// again and again took a quarter longer.
+#[inline(never)]
 #[tactic(auto, unfolding(crate::specs::Validity::is_valid_on))]
 pub fn is_valid(
     book: &Book,
